@@ -1,0 +1,3 @@
+-- Polynomials over a field, and their division.
+pub mod Polynomials
+pub mod Division
