@@ -6,7 +6,7 @@ use Prim.Native.Nat.{ℕ, suc, _-_, _<_, _≤_}
 use native.Mathlib.Omega.{arith}
 use lib.Dec.{leb, eqb}
 use lib.ListN.{length, getD, take, drop, length-map}
-use borrow.Author.Tests.{leb-true, eqb-true, le-leb, eq-eqb}
+use borrow.Author.Tests.{leb-true, eqb-true, le-leb, eq-eqb, clash}
 use Rattle.std.proofs.shelf.Lists.{take-rest}
 use Rattle.gf.specs.Theory.{Operations, Laws}
 use Rattle.codes.specs.Division.{admitted, Admitted}
@@ -32,6 +32,21 @@ module _ {E : Type 0} (f : Operations E) (places : ℕ) where
       by true true false p q r = refl
       by true false c p q r = refl
       by false b c p q r = refl
+
+-- an admitted divisor is one and as many symbols as there are places
+pub admitted-begins : {E : Type 0} {f : Operations E} (l : Laws f) (places : ℕ) (w : List E) → admitted f w places ≡ true
+    → (d : List E) × (w ≡ f .one ∷ d) × (length d ≡ places)
+admitted-begins {E = E} {f = f} l places [] e = absurd (clash e)
+admitted-begins {E = E} {f = f} l places (lead ∷ d) e =
+    by (leb 1 places) (leb places 16) (eqb places (length d)) (f .equal lead (f .one)) refl refl e
+  where
+    by : (a b c t : Bool) → eqb places (length d) ≡ c → f .equal lead (f .one) ≡ t → (a && (b && (c && t))) ≡ true
+        → (tail : List E) × (lead ∷ d ≡ f .one ∷ tail) × (length tail ≡ places)
+    by true true true true p q r = (d, ap (λ a. a ∷ d) (l .equal-no lead (f .one) q), sym (eqb-true places (length d) p))
+    by true true true false p q r = absurd (clash r)
+    by true true false t p q r = absurd (clash r)
+    by true false c t p q r = absurd (clash r)
+    by false b c t p q r = absurd (clash r)
 
 -- the first symbol, and the others behind it
 split : {S : Type 0} (xs : List S) (x : S) → 0 < length xs → x ≡ getD xs 0 x → xs ≡ x ∷ take (length xs - 1) (drop 1 xs)

@@ -4,7 +4,9 @@ use mathlib.Core.Bool.{Bool, true}
 use mathlib.Core.List.{List, _∷_, _++_, map}
 use Prim.Native.Nat.{ℕ}
 use lib.ListN.{length, length-map}
+use Rattle.std.specs.declared.result.Result.{Result}
 use Rattle.std.specs.declared.result.Result.the-variants.{Ok, Err}
+use Rattle.gf.specs.declared.refusal.Refusal.{Refusal}
 use Rattle.gf.specs.Theory.{Operations, Laws}
 use Rattle.codes.specs.Polynomials.{zeros}
 use Rattle.codes.specs.Division.{divided, remainder-of, Remainder, admitted, Admitted, Answered}
@@ -37,3 +39,9 @@ module _ {E : Type 0} {f : Operations E} (l : Laws f) {S : Type 0} (mean : S →
       answered (map mean before ++ map mean message)
       (e ∙ ap (λ (n : ℕ). divided f (map mean lower) n (map mean before ++ map mean message)) (sym (length-map message mean))
       ∙ sym (remainder-after l (map mean lower) (map mean before) (map mean message) (length-map before mean ∙ sym (length-map lower mean ∙ a .sized))))
+
+-- what is written where the divisor is admitted
+pub answered-value : {E S : Type 0} (f : Operations E) (mean : S → E) (ok : Bool) (message divisor : List E) (answer : Result Unit Refusal) (before after : List S)
+    → Answered f mean ok message divisor answer before after → ok ≡ true → map mean after ≡ remainder-of f message divisor
+answered-value f mean ok message divisor answer before after a e =
+    subst (λ b. Answered f mean b message divisor answer before after) e a .1 .value

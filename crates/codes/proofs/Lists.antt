@@ -75,3 +75,23 @@ module _ {E : Type 0} {f : Operations E} (l : Laws f) where
   take-back p w h =
       over-comm (over f p w) (negs f p) ∙ sym (over-assoc (negs f p) p w)
       ∙ ap (λ z. over f z w) (over-comm (negs f p) p ∙ over-negs p) ∙ over-zeros (length p) w h
+
+  -- (p + q) + (r + s) = (p + r) + (q + s)
+  pub over-swap : (p q r s : List E) → over f (over f p q) (over f r s) ≡ over f (over f p r) (over f q s)
+  over-swap p q r s =
+      over-assoc p q (over f r s)
+      ∙ ap (over f p) (sym (over-assoc q r s) ∙ ap (λ z. over f z s) (over-comm q r) ∙ over-assoc r q s)
+      ∙ sym (over-assoc p r (over f q s))
+
+  -- the multiple by a sum is the sum of the multiples
+  pub multiple-add : (a b : E) (d : List E) → negs f (scale f (f .add a b) d) ≡ over f (negs f (scale f a d)) (negs f (scale f b d))
+  multiple-add a b [] = refl
+  multiple-add a b (c ∷ d) =
+      cons (ap (f .neg) (elements.add-mul l a b c) ∙ elements.neg-add l (f .mul a c) (f .mul b c)) (multiple-add a b d)
+
+  -- lists that begin alike long are added part by part
+  pub over-append : (p q r s : List E) → length p ≡ length q → over f (p ++ r) (q ++ s) ≡ over f p q ++ over f r s
+  over-append [] [] r s e = refl
+  over-append [] (b ∷ q) r s e = absurd (omega arith)
+  over-append (a ∷ p) [] r s e = absurd (omega arith)
+  over-append (a ∷ p) (b ∷ q) r s e = cons refl (over-append p q r s (omega arith))

@@ -1,18 +1,20 @@
 -- Long division: the quotient and the rest, that nothing else is left, and a message that comes in parts.
 use mathlib.Core.Path.{_≡_, refl, sym, ap, ap₂, _∙_}
 use mathlib.Core.List.{List, [], _∷_, _++_, map, append-assoc, append-nil}
-use Prim.Native.Nat.{ℕ, zero, suc, _+_, _-_, _<_, _≤_}
-use native.Mathlib.Nat.{zero-add, add-zero, suc-add}
+use Prim.Native.Nat.{ℕ, zero, suc, _+_, _-_, _<_, _≤_, max}
+use native.Mathlib.Nat.{zero-add, add-zero, suc-add, add-comm}
 use native.Mathlib.Numerals.{add-one}
 use native.Mathlib.Omega.{arith}
 use lib.ListN.{length, getD, drop, length-append, length-replicate, length-map, replicate-append-replicate}
 use lib.Seq.{append-snoc, drop-cons}
+use mathlib.Core.Logic.{⊎-elim}
 use Rattle.std.proofs.shelf.Lists.{drop-all}
+use Rattle.std.proofs.shelf.Tests.{cases-lt}
 use Rattle.gf.specs.Theory.{Operations, Laws}
 use Rattle.codes.specs.Polynomials.{zeros, scale, negs, over, plus, times, coefficient, Same}
 use Rattle.codes.specs.Division.{divided, stepped, remainder-of, Leaves, Remainder}
 use Rattle.codes.proofs.Elements.{lead}
-use Rattle.codes.proofs.Lists.{cons, length-over, length-times, over-front, over-comm, over-assoc, over-zeros, scale-zero, negs-zeros, add-back, take-back}
+use Rattle.codes.proofs.Lists.{cons, length-over, length-times, over-front, over-comm, over-assoc, over-zeros, scale-zero, negs-zeros, add-back, take-back, over-swap, multiple-add, over-append}
 use Rattle.codes.proofs.Same.{leading, level}
 
 module _ {E : Type 0} {f : Operations E} (l : Laws f) where
@@ -26,6 +28,11 @@ module _ {E : Type 0} {f : Operations E} (l : Laws f) where
 
   length-padded : (n : ℕ) (w : List E) → length (zeros f n ++ w) ≡ n + length w
   length-padded n w = length-append (zeros f n) w ∙ ap (λ (k : ℕ). k + length w) (length-replicate n (f .zero))
+
+  length-longer : (p q : List E) → length (over f p q) ≡ max (length p) (length q)
+  length-longer p q =
+      ⊎-elim (λ (h : length p < length q). length-over f p q (omega arith) ∙ omega arith)
+      (λ (h : length q ≤ length p). ap length (over-comm l p q) ∙ length-over f q p h ∙ omega arith) (cases-lt (length p) (length q))
 
   -- w is q times the divisor, with the rest behind as many zeros
   abbrev Law : List E → ℕ → List E → List E → List E → Type 0
@@ -229,3 +236,40 @@ module _ {E : Type 0} {f : Operations E} (l : Laws f) where
       ap₂ (divided f d) (length-append v w) (sym (append-assoc (zeros f (length d)) v w))
       ∙ divided-front d (length v) (length w) (zeros f (length d) ++ v) w (length-padded (length d) v ∙ omega arith)
       ∙ sym (remainder-after d (remainder-of f v (f .one ∷ d)) w (length-remainder d v))
+
+  -- the division of a sum
+  divided-over : (d : List E) (n : ℕ) (u v : List E) → length u ≡ length v
+      → divided f d n (over f u v) ≡ over f (divided f d n u) (divided f d n v)
+  divided-over d zero u v e = refl
+  divided-over d (suc n) [] [] e = refl
+  divided-over d (suc n) [] (b ∷ v) e = absurd (omega arith)
+  divided-over d (suc n) (a ∷ u) [] e = absurd (omega arith)
+  divided-over d (suc n) (a ∷ u) (b ∷ v) e =
+      ap (divided f d n)
+      (ap (over f (over f u v)) (multiple-add l a b d) ∙ over-swap l u v (negs f (scale f a d)) (negs f (scale f b d)))
+      ∙ divided-over d n (over f u (negs f (scale f a d))) (over f v (negs f (scale f b d))) (level-steps a b u v (omega arith))
+    where
+      level-steps : (a b : E) (u v : List E) → length u ≡ length v
+          → length (over f u (negs f (scale f a d))) ≡ length (over f v (negs f (scale f b d)))
+      level-steps a b u v h =
+          length-longer u (negs f (scale f a d)) ∙ ap₂ max h (length-multiple a d ∙ sym (length-multiple b d))
+          ∙ sym (length-longer v (negs f (scale f b d)))
+
+  -- the remainder of a sum is the sum of the remainders
+  pub remainder-over : (d u v : List E) → length u ≡ length v
+      → remainder-of f (over f u v) (f .one ∷ d) ≡ over f (remainder-of f u (f .one ∷ d)) (remainder-of f v (f .one ∷ d))
+  remainder-over d u v e =
+      ap₂ (divided f d) (length-over f u v (omega arith) ∙ sym e)
+      (ap (λ z. z ++ over f u v) (sym (over-zeros l (length d) (zeros f (length d)) (omega (arith, length-replicate (length d) (f .zero)))))
+      ∙ sym (over-append l (zeros f (length d)) (zeros f (length d)) u v refl))
+      ∙ divided-over d (length u) (zeros f (length d) ++ u) (zeros f (length d) ++ v) (length-padded (length d) u ∙ ap (λ (n : ℕ). length d + n) e ∙ sym (length-padded (length d) v))
+      ∙ ap (λ (n : ℕ). over f (divided f d (length u) (zeros f (length d) ++ u)) (divided f d n (zeros f (length d) ++ v))) e
+
+  -- zeros in front of a message do not count
+  pub remainder-zeros : (d : List E) (n : ℕ) (w : List E) → remainder-of f (zeros f n ++ w) (f .one ∷ d) ≡ remainder-of f w (f .one ∷ d)
+  remainder-zeros d n w =
+      ap₂ (divided f d) (length-padded n w)
+      (sym (append-assoc (zeros f (length d)) (zeros f n) w)
+      ∙ ap (λ z. z ++ w) (replicate-append-replicate (length d) n (f .zero) ∙ ap (zeros f) (add-comm (length d) n) ∙ sym (replicate-append-replicate n (length d) (f .zero)))
+      ∙ append-assoc (zeros f n) (zeros f (length d)) w)
+      ∙ divided-zeros d n (length w) (zeros f (length d) ++ w) (omega (arith, length-padded (length d) w))

@@ -34,7 +34,7 @@ module _ {E : Type 0} (z : E) where
   whole new old n h k = ap₂ _++_ (take-all n new h) (drop-all n old k) ∙ append-nil new
 
 module _ {E : Type 0} (f : Operations E) where
-  getD-over : (p q : List E) (j : ℕ) → j < length p → j < length q
+  pub getD-over : (p q : List E) (j : ℕ) → j < length p → j < length q
       → getD (over f p q) j (f .zero) ≡ f .add (getD p j (f .zero)) (getD q j (f .zero))
   getD-over [] q j h k = absurd (omega arith)
   getD-over (a ∷ p) [] j h k = absurd (omega arith)
