@@ -1,5 +1,12 @@
-// The block of a super frame: its check words and its header.
 mod checks;
+mod fault;
+mod parameters;
 
 pub use checks::fire_word;
 pub use checks::unit_check;
+pub use fault::HeaderFault;
+pub use fault::RefusalFromHeaderFault;
+pub use parameters::ChannelMode;
+pub use parameters::DacRate;
+pub use parameters::Layout;
+pub use parameters::Parameters;
