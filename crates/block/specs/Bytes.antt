@@ -8,6 +8,6 @@ abbrev pub bit : List ℕ → ℕ → ℕ
 bit bytes k = getD bytes (k / 8) 0 / 2 ^ (7 - k % 8) % 2
 
 -- the number that `width` bits write from bit `from` on
-abbrev pub unsigned : List ℕ → ℕ → ℕ → ℕ
+unfoldable pub unsigned : List ℕ → ℕ → ℕ → ℕ
 unsigned bytes from zero = 0
 unsigned bytes from (suc width) = unsigned bytes from width * 2 + bit bytes (from + width)

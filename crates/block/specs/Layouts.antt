@@ -15,7 +15,7 @@ use Rattle.block.specs.declared.parameters.ChannelMode.{ChannelMode}
 use Rattle.block.specs.declared.parameters.ChannelMode.the-variants.{Mono, Stereo}
 use Rattle.block.specs.declared.parameters.Parameters.{Parameters}
 use Rattle.block.specs.declared.parameters.Layout.{Layout}
-use Rattle.block.specs.Bytes.{unsigned}
+use Rattle.block.specs.Bytes.{bit, unsigned}
 
 -- the refusal that a header's fault is
 abbrev pub refused : HeaderFault → Refusal
@@ -26,7 +26,7 @@ refused (faults.Starts number) = refusals.Starts number
 
 -- whether a bit of the byte is 1, the top bit being bit 0
 abbrev pub flag : ℕ → ℕ → Bool
-flag byte place = eqb (unsigned (byte ∷ []) place 1) 1
+flag byte place = eqb (bit (byte ∷ []) place) 1
 
 abbrev pub rate : Bool → DacRate
 rate true = Khz48

@@ -2,3 +2,4 @@
 pub mod Bytes
 pub mod Checks
 pub mod Layouts
+pub mod Headers

@@ -6,20 +6,20 @@ use super::fault::HeaderFault;
 use std::fmt;
 
 // The sampling rate of the decoder's output.
-#[derive(Clone, Copy, PartialEq, Eq, Debug, Drop)]
+#[derive(Clone, Copy, PartialEq, Eq, Debug)]
 pub enum DacRate {
     Khz32,
     Khz48,
 }
 
-#[derive(Clone, Copy, PartialEq, Eq, Debug, Drop)]
+#[derive(Clone, Copy, PartialEq, Eq, Debug)]
 pub enum ChannelMode {
     Mono,
     Stereo,
 }
 
 // What the parameter byte says of the audio.
-#[derive(Clone, Copy, PartialEq, Eq, Debug, Drop)]
+#[derive(Clone, Copy, PartialEq, Eq, Debug)]
 pub struct Parameters {
     pub dac: DacRate,
     // Whether spectral band replication is used.
@@ -32,7 +32,7 @@ pub struct Parameters {
 }
 
 // Units in a super frame, bytes in its header, and whether four bits fill the header's last byte.
-#[derive(Clone, Copy, PartialEq, Eq, Debug, Drop)]
+#[derive(Clone, Copy, PartialEq, Eq, Debug)]
 pub struct Layout {
     pub units: usize,
     pub header_length: usize,

@@ -5,7 +5,7 @@ ghost use Rattle.gf.specs.Refusals.{numbered, worded, layered, placed, rank, d
 use std::fmt;
 
 // Why a call did nothing.
-#[derive(Clone, Copy, PartialEq, Eq, Debug, Drop)]
+#[derive(Clone, Copy, PartialEq, Eq, Debug)]
 pub enum Refusal {
     // The subchannel index is not 1 to 24.
     Size,
@@ -44,7 +44,7 @@ pub enum Refusal {
 }
 
 // Where a refusal comes from.
-#[derive(Clone, Copy, PartialEq, Eq, Debug, Drop)]
+#[derive(Clone, Copy, PartialEq, Eq, Debug)]
 pub enum Layer {
     Arguments,
     Source,
