@@ -65,18 +65,6 @@ unsigned-within b j o (suc w) h =
 pub unsigned-lower : (b : List ℕ) (j : ℕ) → unsigned b (8 * j + 4) 4 ≡ getD b j 0 % 16
 unsigned-lower b j = unsigned-within b j 4 4 (lit≤ tt) ∙ ap (λ (x : ℕ). x % 16) (div-one (getD b j 0))
 
--- two bytes
-pub unsigned-word : (b : List ℕ) (j : ℕ) → getD b j 0 < 256 → getD b (j + 1) 0 < 256
-    → unsigned b (8 * j) 16 ≡ getD b j 0 * 256 + getD b (j + 1) 0
-unsigned-word b j h k =
-    unsigned-split b (8 * j) 8 8
-    ∙ ap₂ (λ (m n : ℕ). m * 256 + n)
-    (ap (λ (from : ℕ). unsigned b from 8) (sym (add-zero (8 * j))) ∙ unsigned-within b j 0 8 (lit≤ tt) ∙ whole (getD b j 0) h)
-    (ap (λ (from : ℕ). unsigned b from 8) next ∙ unsigned-within b (j + 1) 0 8 (lit≤ tt) ∙ whole (getD b (j + 1) 0) k)
-  where
-    next : 8 * j + 8 ≡ 8 * (j + 1) + 0
-    next = omega arith
-
 -- the packed number that begins with a byte
 pub unsigned-first : (b : List ℕ) (j : ℕ) → getD b j 0 < 256 → getD b (j + 1) 0 < 256
     → unsigned b (8 * j) 12 ≡ getD b j 0 * 16 + getD b (j + 1) 0 / 16

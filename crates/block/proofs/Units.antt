@@ -2,10 +2,10 @@
 use mathlib.Core.Path.{_≡_, refl, sym, ap, ap₂, _∙_}
 use mathlib.Core.Bool.{Bool, true, false, cond, _&&_}
 use mathlib.Core.List.{List}
-use Prim.Native.Nat.{ℕ, _+_, _*_, _<_, _≤_}
+use Prim.Native.Nat.{ℕ, _+_, _*_, _≤_}
 use native.Mathlib.Omega.{arith}
 use lib.Dec.{eqb, leb}
-use lib.ListN.{length, getD, take, drop}
+use lib.ListN.{length, take, drop}
 use borrow.Author.Tests.{le-leb}
 use Rattle.std.specs.declared.result.Result.{Result}
 use Rattle.std.specs.declared.result.Result.the-variants.{Ok, Err}
@@ -13,10 +13,9 @@ use Rattle.gf.specs.declared.refusal.Refusal.{Refusal}
 use Rattle.gf.specs.declared.refusal.Refusal.the-variants as refusals
 use Rattle.block.specs.declared.header.Header.{Header}
 use Rattle.block.specs.declared.header.UnitPlace.{UnitPlace}
-use Rattle.block.specs.Bytes.{unsigned}
+use Rattle.block.specs.Bytes.{word}
 use Rattle.block.specs.Checks.{unit-check}
 use Rattle.block.specs.Headers.{unit-at, checked, admitted, good}
-use Rattle.block.proofs.Reading.{unsigned-word}
 
 -- where the size and the buffer are right, the answer is what comes behind
 pub admitted-is : {B : Type 0} (size : ℕ) (block : List ℕ) (done : Unit {0}) → Ok done ≡ admitted size block (Ok tt)
@@ -32,11 +31,10 @@ admitted-is {B} size block done e answer = by (leb 1 size && leb size 24) (eqb (
 -- a unit within the block
 pub good-is : (h : Header) (block : List ℕ) (n : ℕ) (done : Unit {0}) → Ok done ≡ admitted (h .size) block (Ok tt)
     → (unit : UnitPlace) → Ok unit ≡ unit-at h n → unit .place + unit .length + 2 ≤ length block
-    → getD block (unit .place + unit .length) 0 < 256 → getD block (unit .place + unit .length + 1) 0 < 256
-    → (word : ℕ) → word ≡ unit-check (take (unit .length) (drop (unit .place) block))
-    → Ok (eqb word (getD block (unit .place + unit .length) 0 * 256 + getD block (unit .place + unit .length + 1) 0)) ≡ good h block n
-good-is h block n done e unit there within first second word check =
-    ap₂ (λ (x y : ℕ). Ok (eqb x y)) check (sym (unsigned-word block (unit .place + unit .length) first second))
+    → (check : ℕ) → check ≡ unit-check (take (unit .length) (drop (unit .place) block))
+    → Ok (eqb check (word block (unit .place + unit .length))) ≡ good h block n
+good-is h block n done e unit there within check is =
+    ap (λ (x : ℕ). Ok (eqb x (word block (unit .place + unit .length)))) is
     ∙ sym (admitted-is (h .size) block done e (checked block (unit-at h n)) ∙ ap (checked block) (sym there)
-    ∙ ap (λ b. cond b (Ok (eqb (unit-check (take (unit .length) (drop (unit .place) block))) (unsigned block (8 * (unit .place + unit .length)) 16))) (Err refusals.Index))
+    ∙ ap (λ b. cond b (Ok (eqb (unit-check (take (unit .length) (drop (unit .place) block))) (word block (unit .place + unit .length)))) (Err refusals.Index))
     (le-leb (unit .place + unit .length + 2) (length block) within))

@@ -11,3 +11,7 @@ bit bytes k = getD bytes (k / 8) 0 / 2 ^ (7 - k % 8) % 2
 unfoldable pub unsigned : List ℕ → ℕ → ℕ → ℕ
 unsigned bytes from zero = 0
 unsigned bytes from (suc width) = unsigned bytes from width * 2 + bit bytes (from + width)
+
+-- the two bytes from byte k on as one number, the high byte first
+abbrev pub word : List ℕ → ℕ → ℕ
+word bytes k = getD bytes k 0 * 256 + getD bytes (k + 1) 0

@@ -17,7 +17,7 @@ use Rattle.block.specs.declared.parameters.Parameters.{Parameters}
 use Rattle.block.specs.declared.parameters.Layout.{Layout}
 use Rattle.block.specs.declared.header.Header.{Header}
 use Rattle.block.specs.declared.header.UnitPlace.{UnitPlace}
-use Rattle.block.specs.Bytes.{unsigned}
+use Rattle.block.specs.Bytes.{unsigned, word}
 use Rattle.block.specs.Checks.{fire-word, unit-check}
 use Rattle.block.specs.Layouts.{refused, layout, read}
 
@@ -48,7 +48,7 @@ crowded places n (suc count) = cond (ltb (getD places n 0) (getD places (n - 1) 
 
 -- the Fire word in front fits the nine bytes behind it
 abbrev pub fire-fits : List ℕ → Bool
-fire-fits block = eqb (fire-word (take 9 (drop 2 block))) (unsigned block 0 16)
+fire-fits block = eqb (fire-word (take 9 (drop 2 block))) (word block 0)
 
 -- the four bits behind the packed starts are zero, where there are such
 abbrev pub fills : Layout → List ℕ → Bool
@@ -100,7 +100,7 @@ abbrev pub checked : List ℕ → Result UnitPlace Refusal → Result Bool Refus
 checked block (Err refusal) = Err refusal
 checked block (Ok unit) =
     cond (leb (unit .place + unit .length + 2) (length block))
-    (Ok (eqb (unit-check (take (unit .length) (drop (unit .place) block))) (unsigned block (8 * (unit .place + unit .length)) 16)))
+    (Ok (eqb (unit-check (take (unit .length) (drop (unit .place) block))) (word block (unit .place + unit .length))))
     (Err refusals.Index)
 
 -- Whether unit n's check is right, or the refusal.

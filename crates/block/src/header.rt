@@ -5,7 +5,7 @@ ghost use Prim.Native.Nat.{_+_, _*_, _<_, _≤_};
 ghost use lib.ListN.{length};
 ghost use Rattle.std.specs.declared.result.Result.the-variants.{Ok};
 ghost use Rattle.block.specs.Bytes.{unsigned};
-ghost use Rattle.block.specs.Headers.{starts as expected, crowded, fills, opened, header, unit-at, good, admitted, Fits};
+ghost use Rattle.block.specs.Headers.{starts as expected, crowded, fills, spaced, opened, header, unit-at, good, admitted, Fits};
 use super::checks::fire_word;
 use super::checks::unit_check;
 use super::fault::HeaderFault;
@@ -86,6 +86,26 @@ fn is_filled(layout: &Layout, packed: &[u8]) -> bool
     !layout.aligned || packed[layout.header_length - 4] % 16 == 0
 }
 
+// The header with its starts, unless one is less than three bytes after the one before.
+fn with_starts(
+    size: usize,
+    parameters: Parameters,
+    units: usize,
+    starts: [u16; 7],
+) -> Result<Header, HeaderFault>
+    requires { ⌜ units ≤ 6 ⌝ }
+    ensures { λ r. ⌜ r ≡ spaced size parameters starts (crowded starts 1 units) ⌝ }
+{
+    match first_crowded(&starts, units) {
+        Some(number) => Err(HeaderFault::Starts { number }),
+        None => Ok(Header {
+            size,
+            parameters,
+            starts,
+        }),
+    }
+}
+
 // The header of a block whose size and length are right, or its first fault.
 fn open(size: usize, block: &[u8]) -> Result<Header, HeaderFault>
     requires { ⌜ 1 ≤ size ⌝ ∗ ⌜ size ≤ 24 ⌝ ∗ ⌜ length (now block) ≡ 120 * size ⌝ }
@@ -106,14 +126,7 @@ fn open(size: usize, block: &[u8]) -> Result<Header, HeaderFault>
         });
     }
     let starts = starts_of(&layout, size, packed);
-    match first_crowded(&starts, layout.units) {
-        Some(number) => Err(HeaderFault::Starts { number }),
-        None => Ok(Header {
-            size,
-            parameters,
-            starts,
-        }),
-    }
+    with_starts(size, parameters, layout.units, starts)
 }
 
 // Whether the subchannel index is 1 to 24, and the buffer as long as its block.

@@ -8,43 +8,31 @@ use Rattle.gf.specs.declared.refusal.Refusal.the-variants.{Size, Buffer, Setti
 use Rattle.gf.specs.declared.refusal.Layer.{Layer}
 use Rattle.gf.specs.declared.refusal.Layer.the-variants.{Arguments, Source, Row, Header, Unit}
 
-abbrev pub numbered : Refusal → ℕ
-numbered Size = 1
-numbered Buffer = 2
-numbered Settings = 3
-numbered UnitLength = 4
-numbered Overfull = 5
-numbered Unfinished = 6
-numbered Shape = 7
-numbered BeyondRepair = 8
-numbered Fire = 9
-numbered Parameters = 10
-numbered (Alignment byte) = 11
-numbered (Starts number) = 12
-numbered Index = 13
-numbered (UnitCheck unit) = 14
-numbered FrameLength = 15
-numbered Full = 16
-numbered Patience = 17
+pub record Entry : Type 0 where
+  pub number : ℕ
+  pub word : List ℕ
+  pub layer : Layer
+  -- what the refusal speaks of: the parameter byte, the header's last byte, a start, a unit; else 0
+  pub place : ℕ
 
-abbrev pub worded : Refusal → List ℕ
-worded Size = codes "size"
-worded Buffer = codes "buffer"
-worded Settings = codes "settings"
-worded UnitLength = codes "unit length"
-worded Overfull = codes "overfull"
-worded Unfinished = codes "unfinished"
-worded Shape = codes "shape"
-worded BeyondRepair = codes "beyond repair"
-worded Fire = codes "Fire"
-worded Parameters = codes "parameters"
-worded (Alignment byte) = codes "alignment"
-worded (Starts number) = codes "starts"
-worded Index = codes "index"
-worded (UnitCheck unit) = codes "unit check"
-worded FrameLength = codes "frame length"
-worded Full = codes "full"
-worded Patience = codes "patience"
+abbrev pub entry : Refusal → Entry
+entry Size = record { number = 1; word = codes "size"; layer = Arguments; place = 0 }
+entry Buffer = record { number = 2; word = codes "buffer"; layer = Arguments; place = 0 }
+entry Settings = record { number = 3; word = codes "settings"; layer = Arguments; place = 0 }
+entry UnitLength = record { number = 4; word = codes "unit length"; layer = Arguments; place = 0 }
+entry Overfull = record { number = 5; word = codes "overfull"; layer = Arguments; place = 0 }
+entry Unfinished = record { number = 6; word = codes "unfinished"; layer = Arguments; place = 0 }
+entry Shape = record { number = 7; word = codes "shape"; layer = Arguments; place = 0 }
+entry BeyondRepair = record { number = 8; word = codes "beyond repair"; layer = Row; place = 0 }
+entry Fire = record { number = 9; word = codes "Fire"; layer = Header; place = 0 }
+entry Parameters = record { number = 10; word = codes "parameters"; layer = Header; place = 2 }
+entry (Alignment byte) = record { number = 11; word = codes "alignment"; layer = Header; place = byte }
+entry (Starts number) = record { number = 12; word = codes "starts"; layer = Header; place = number }
+entry Index = record { number = 13; word = codes "index"; layer = Arguments; place = 0 }
+entry (UnitCheck unit) = record { number = 14; word = codes "unit check"; layer = Unit; place = unit }
+entry FrameLength = record { number = 15; word = codes "frame length"; layer = Source; place = 0 }
+entry Full = record { number = 16; word = codes "full"; layer = Source; place = 0 }
+entry Patience = record { number = 17; word = codes "patience"; layer = Arguments; place = 0 }
 
 -- the number of a layer
 abbrev pub rank : Layer → ℕ
@@ -54,46 +42,8 @@ rank Row = 2
 rank Header = 3
 rank Unit = 4
 
-abbrev pub layered : Refusal → Layer
-layered Size = Arguments
-layered Buffer = Arguments
-layered Settings = Arguments
-layered UnitLength = Arguments
-layered Overfull = Arguments
-layered Unfinished = Arguments
-layered Shape = Arguments
-layered BeyondRepair = Row
-layered Fire = Header
-layered Parameters = Header
-layered (Alignment byte) = Header
-layered (Starts number) = Header
-layered Index = Arguments
-layered (UnitCheck unit) = Unit
-layered FrameLength = Source
-layered Full = Source
-layered Patience = Arguments
-
--- what the refusal speaks of: the parameter byte, the header's last byte, a start, a unit; else 0
-abbrev pub placed : Refusal → ℕ
-placed Size = 0
-placed Buffer = 0
-placed Settings = 0
-placed UnitLength = 0
-placed Overfull = 0
-placed Unfinished = 0
-placed Shape = 0
-placed BeyondRepair = 0
-placed Fire = 0
-placed Parameters = 2
-placed (Alignment byte) = byte
-placed (Starts number) = number
-placed Index = 0
-placed (UnitCheck unit) = unit
-placed FrameLength = 0
-placed Full = 0
-placed Patience = 0
-
+-- as in "refused 12 starts, layer 3, place 1"
 abbrev pub display : Refusal → List ℕ
-display refusal =
-    codes "refused " ++ (decimal (numbered refusal) ++ (codes " " ++ (worded refusal ++ (codes ", layer " ++ (decimal (rank (layered refusal))
-    ++ (codes ", place " ++ decimal (placed refusal)))))))
+display r =
+    codes "refused " ++ (decimal (entry r .number) ++ (codes " " ++ (entry r .word ++ (codes ", layer " ++ (decimal (rank (entry r .layer))
+    ++ (codes ", place " ++ decimal (entry r .place)))))))

@@ -1,7 +1,7 @@
 // Every refusal of the library: its number, its word, the layer that gives it, and the place it speaks of.
 ghost use mathlib.Core.Path.{_≡_};
 ghost use Rattle.std.specs.declared.option.Option.the-variants.{Some};
-ghost use Rattle.gf.specs.Refusals.{numbered, worded, layered, placed, rank, display};
+ghost use Rattle.gf.specs.Refusals.{entry, rank, display};
 use std::fmt;
 
 // Why a call did nothing.
@@ -69,7 +69,7 @@ impl Layer {
 
 impl Refusal {
     pub fn number(self) -> u8
-        ensures { λ r. ⌜ r ≡ numbered self ⌝ }
+        ensures { λ r. ⌜ r ≡ entry self .number ⌝ }
     {
         match self {
             Refusal::Size => 1,
@@ -93,7 +93,7 @@ impl Refusal {
     }
 
     pub fn word(self) -> &'static str
-        ensures { λ r. ⌜ now r ≡ worded self ⌝ }
+        ensures { λ r. ⌜ now r ≡ entry self .word ⌝ }
     {
         match self {
             Refusal::Size => "size",
@@ -117,7 +117,7 @@ impl Refusal {
     }
 
     pub fn layer(self) -> Layer
-        ensures { λ r. ⌜ r ≡ layered self ⌝ }
+        ensures { λ r. ⌜ r ≡ entry self .layer ⌝ }
     {
         match self {
             Refusal::FrameLength | Refusal::Full => Layer::Source,
@@ -133,7 +133,7 @@ impl Refusal {
 
     // The byte, start or unit that the refusal speaks of, and 0 where it speaks of none.
     pub fn place(self) -> u8
-        ensures { λ r. ⌜ r ≡ placed self ⌝ }
+        ensures { λ r. ⌜ r ≡ entry self .place ⌝ }
     {
         match self {
             Refusal::Parameters => 2,
