@@ -5,3 +5,4 @@ pub mod Reading
 pub mod Starts
 pub mod Opening
 pub mod Units
+pub mod Tiling

@@ -42,7 +42,7 @@ module _ (l : Layout) (size : ℕ) (packed : List ℕ) where
       ap₂ (λ a b. cond a (l .«header_length») (cond b (unsigned packed (12 * (n - 1)) 12) (cond (eqb n (l .units)) (110 * size) 0)))
       (ne-eqb n 0 (λ e. omega arith)) (lt-ltb n (l .units) k)
 
-  start-last : (n : ℕ) → 1 ≤ n → n ≡ l .units → start l size packed n ≡ 110 * size
+  pub start-last : (n : ℕ) → 1 ≤ n → n ≡ l .units → start l size packed n ≡ 110 * size
   start-last n h k =
       ap₂ (λ a b. cond a (l .«header_length») (cond b (unsigned packed (12 * (n - 1)) 12) (cond (eqb n (l .units)) (110 * size) 0)))
       (ne-eqb n 0 (λ e. omega arith)) (le-ltb n (l .units) (omega arith))
@@ -53,6 +53,10 @@ module _ (l : Layout) (size : ℕ) (packed : List ℕ) where
       ap₂ (λ a b. cond a (l .«header_length») (cond b (unsigned packed (12 * (n - 1)) 12) (cond (eqb n (l .units)) (110 * size) 0)))
       (ne-eqb n 0 (λ e. omega arith)) (le-ltb n (l .units) (omega arith))
       ∙ ap (λ a. cond a (110 * size) 0) (ne-eqb n (l .units) (λ e. omega arith))
+
+  pub start-at : (n : ℕ) → n < 7 → getD (starts l size packed) n 0 ≡ start l size packed n
+  unfolding starts
+  start-at n h = seven (start l size packed) n h
 
   -- the starts before n are written, the others are zero
   abbrev pub Written : ℕ → List ℕ → Type 0

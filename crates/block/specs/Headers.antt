@@ -2,7 +2,7 @@
 use mathlib.Core.Path.{_≡_}
 use mathlib.Core.Bool.{Bool, true, false, cond, not, _&&_, _||_}
 use mathlib.Core.List.{List, [], _∷_, map}
-use Prim.Native.Nat.{ℕ, zero, suc, _+_, _-_, _*_, _≤_}
+use Prim.Native.Nat.{ℕ, zero, suc, _+_, _-_, _*_, _<_, _≤_}
 use lib.Dec.{eqb, ltb, leb}
 use lib.ListN.{length, getD, take, drop}
 use Rattle.std.specs.declared.option.Option.{Option}
@@ -88,10 +88,14 @@ admitted size block answer =
 abbrev pub header : ℕ → List ℕ → Result Header Refusal
 header size block = admitted size block (answered (opened size block))
 
+-- how many units a header has
+abbrev pub unit-count : Header → ℕ
+unit-count h = layout (h .parameters .dac) (h .parameters .sbr) .units
+
 -- unit n of a header: from its start to the next, without the two bytes of its check
 abbrev pub unit-at : Header → ℕ → Result UnitPlace Refusal
 unit-at h n =
-    cond (ltb n (layout (h .parameters .dac) (h .parameters .sbr) .units) && leb (getD (h .starts) n 0 + 3) (getD (h .starts) (n + 1) 0))
+    cond (ltb n (unit-count h) && leb (getD (h .starts) n 0 + 3) (getD (h .starts) (n + 1) 0))
     (Ok (record { place = getD (h .starts) n 0; length = getD (h .starts) (n + 1) 0 - getD (h .starts) n 0 - 2 }))
     (Err refusals.Index)
 
@@ -106,3 +110,9 @@ checked block (Ok unit) =
 -- Whether unit n's check is right, or the refusal.
 abbrev pub good : Header → List ℕ → ℕ → Result Bool Refusal
 good h block n = admitted (h .size) block (checked block (unit-at h n))
+
+-- The units of a header stand one behind another from the header's end to the super frame's, each with a byte at least and its check.
+pub record Tiles (h : Header) : Type 0 where
+  pub first : getD (h .starts) 0 0 ≡ layout (h .parameters .dac) (h .parameters .sbr) .«header_length»
+  pub apart : (n : ℕ) → n < unit-count h → getD (h .starts) n 0 + 3 ≤ getD (h .starts) (n + 1) 0
+  pub last : getD (h .starts) (unit-count h) 0 ≡ 110 * h .size

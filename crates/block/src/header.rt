@@ -3,9 +3,10 @@ ghost use mathlib.Core.Path.{_≡_};
 ghost use mathlib.Core.Bool.{true};
 ghost use Prim.Native.Nat.{_+_, _*_, _<_, _≤_};
 ghost use lib.ListN.{length};
+ghost use Rattle.std.specs.Vec.{made};
 ghost use Rattle.std.specs.declared.result.Result.the-variants.{Ok};
 ghost use Rattle.block.specs.Bytes.{unsigned};
-ghost use Rattle.block.specs.Headers.{starts as expected, crowded, fills, spaced, opened, header, unit-at, good, admitted, Fits};
+ghost use Rattle.block.specs.Headers.{starts as expected, crowded, fills, spaced, opened, header, unit-at, good, admitted, Fits, Tiles};
 use super::checks::fire_word;
 use super::checks::unit_check;
 use super::fault::HeaderFault;
@@ -144,7 +145,8 @@ fn check_block(size: usize, block: &[u8]) -> Result<(), Refusal>
 
 // Reads the header of a block of the size, 120 bytes for each subchannel unit.
 pub fn read_header(size: usize, block: &[u8]) -> Result<Header, Refusal>
-    ensures { λ r. ⌜ r ≡ header size (now (block .entry)) ⌝ }
+    ensures value { λ r. ⌜ r ≡ header size (now (block .entry)) ⌝ }
+    ensures tiles { λ r. ⌜ made r Tiles ⌝ }
 {
     check_block(size, block)?;
     Ok(open(size, block)?)
