@@ -1,7 +1,9 @@
 -- The tables of a field: the powers of x, their exponents and the inverses, and the tests that they pass.
+use mathlib.Core.Path.{_≡_, sym, ap, ap₂, _∙_}
 use mathlib.Core.Bool.{Bool, true, false, not, _&&_}
 use mathlib.Core.List.{List, [], _∷_}
-use Prim.Native.Nat.{ℕ, zero, suc, _+_, _-_, _^_}
+use Prim.Native.Nat.{ℕ, zero, suc, _+_, _-_, _^_, _<_}
+use native.Mathlib.Nat.{add-zero, zero-add, add-suc, suc-add, le-of-suc-le-suc, not-suc-le-zero}
 use lib.Dec.{T, eqb, ltb}
 use lib.ListN.{getD}
 use Rattle.gf.specs.Bits.{Bits, bits, number, zeros, equal, times-x, times}
@@ -59,14 +61,51 @@ unfoldable pub invs : ℕ → List ℕ → List ℕ → List ℕ
 invs last xs [] = []
 invs last xs (l ∷ ls) = 0 ∷ turns (suc last) xs ls
 
+-- n entries of a table from m on
+unfoldable pub listed : {A : Type 0} → (ℕ → A) → ℕ → ℕ → List A
+listed f zero m = []
+listed f (suc n) m = f m ∷ listed f n (suc m)
+
+pub listed-at : {A : Type 0} (f : ℕ → A) (d : A) (n m i : ℕ) → i < n → getD (listed f n m) i d ≡ f (m + i)
+unfolding listed
+listed-at f d zero m i h = absurd (not-suc-le-zero h)
+listed-at f d (suc n) m zero h = ap f (sym (add-zero m))
+listed-at f d (suc n) m (suc i) h = listed-at f d n (suc m) i (le-of-suc-le-suc h) ∙ ap f (suc-add m i ∙ sym (add-suc m i))
+
+-- the products with the first powers of the root, by the exponent and the number
+unfoldable pub root-products : ℕ → List ℕ → List ℕ → List (List ℕ)
+root-products k exps logs = listed (λ i. listed (λ a. getD exps (getD logs a 0 + i) 0) (2 ^ k) 0) 16 0
+
+pub root-products-at : (k : ℕ) (exps logs : List ℕ) (i a : ℕ) → i < 16 → a < 2 ^ k
+    → getD (getD (root-products k exps logs) i []) a 0 ≡ getD exps (getD logs a 0 + i) 0
+unfolding root-products
+root-products-at k exps logs i a hi ha =
+    ap (λ row. getD row a 0) (listed-at (λ j. listed (λ b. getD exps (getD logs b 0 + j) 0) (2 ^ k) 0) [] 16 0 i hi)
+    ∙ listed-at (λ b. getD exps (getD logs b 0 + (0 + i)) 0) 0 (2 ^ k) 0 a ha
+    ∙ ap₂ (λ (b j : ℕ). getD exps (getD logs b 0 + j) 0) (zero-add a) (zero-add i)
+
+-- the tables of a field
+pub record Tables : Type 0 where
+  pub exps : List ℕ
+  pub logs : List ℕ
+  pub invs : List ℕ
+
+unfoldable pub tables : (k : ℕ) → Bits k → ℕ → Tables
+unfolding exps row padding logs place places invs turns number
+tables k low last =
+    let powers = exps k low last in
+    let exponents = logs k powers in
+    record { exps = powers; logs = exponents; invs = invs last powers exponents }
+
 -- The tests of the two tables: `exps` has the powers of x, twice around, and then padding; `logs` has the exponent of each number, and
 -- at 0 the place of the first zero.
-pub record Sound (k : ℕ) (low : Bits k) (last : ℕ) (exps logs : List ℕ) : Type 0 where
+pub record Sound (k : ℕ) (low : Bits k) (last : ℕ) (t : Tables) : Type 0 where
   pub spans : T (below (λ m. equal k (times k low (bits k m) (bits k 1)) (bits k m)) (2 ^ k))
-  pub powers : T (walk k low (suc last + suc last) exps (bits k 1))
-  pub padding : T (below (λ j. eqb (getD exps ((suc last + suc last) + j) 0) 0) (suc (suc last + suc last)))
-  pub entries : T (below (entry last exps logs) (2 ^ k))
-  pub back : T (below (λ i. eqb (getD logs (number k (bits k (getD exps i 0))) 0) i) (suc last))
-  pub round : T (eqb (getD exps (suc last) 0) 1)
+  pub powers : T (walk k low (suc last + suc last) (t .exps) (bits k 1))
+  pub padding : T (below (λ j. eqb (getD (t .exps) ((suc last + suc last) + j) 0) 0) (suc (suc last + suc last)))
+  pub entries : T (below (entry last (t .exps) (t .logs)) (2 ^ k))
+  pub back : T (below (λ i. eqb (getD (t .logs) (number k (bits k (getD (t .exps) i 0))) 0) i) (suc last))
+  pub round : T (eqb (getD (t .exps) (suc last) 0) 1)
   pub unequal : T (not (equal k (bits k 1) (zeros k)))
   pub zero-bits : T (equal k (bits k 0) (zeros k))
+  pub inverses : T (below (turned k (t .exps) (t .logs) (t .invs)) (2 ^ k))

@@ -13,7 +13,7 @@ use Rattle.gf.specs.Bits.{Bits, bits, number, zeros, plus, equal, times-x, tim
 use Rattle.gf.specs.Fields.{operations}
 use Rattle.gf.proofs.Tests.{T-true, and-left, and-right, below, below-at}
 use Rattle.gf.proofs.Numbers.{bits-number, number-lt}
-use Rattle.gf.proofs.Computed.{walk, entry, turned, Sound}
+use Rattle.gf.proofs.Computed.{walk, entry, turned, Tables, Sound}
 use Rattle.gf.proofs.Ring.{plus-assoc, plus-comm, plus-zeros, plus-self, equal-yes, equal-no, times-plus, times-zeros, times-times-x, times-comm, times-assoc}
 
 -- the powers of x
@@ -36,7 +36,7 @@ module _ (k : ℕ) (low : Bits k) where
       walk-at n xs (suc j) (and-right (equal k (bits k x) (up k low j)) (walk k low n xs (up k low (suc j))) t) i (le-of-suc-le-suc h)
       ∙ ap (up k low) (suc-add j i ∙ sym (add-suc j i))
 
-module _ (k : ℕ) (low : Bits k) (last : ℕ) (exps logs : List ℕ) (s : Sound k low last exps logs) where
+module _ (k : ℕ) (low : Bits k) (last : ℕ) (t : Tables) (s : Sound k low last t) where
   pub times-one : (u : Bits k) → times k low u (bits k 1) ≡ u
   times-one u =
       subst (λ v. times k low v (bits k 1) ≡ v) (bits-number k u)
@@ -67,9 +67,9 @@ module _ (k : ℕ) (low : Bits k) (last : ℕ) (exps logs : List ℕ) (s : Sound
       sum i m = omega (arith, mul-suc i m)
 
   -- the table of powers
-  pub exp-at : (i : ℕ) → i < suc last + suc last → bits k (getD exps i 0) ≡ up k low i
+  pub exp-at : (i : ℕ) → i < suc last + suc last → bits k (getD (t .exps) i 0) ≡ up k low i
   unfolding up
-  exp-at i h = walk-at k low (suc last + suc last) exps 0 (s .powers) i h ∙ ap (up k low) (zero-add i)
+  exp-at i h = walk-at k low (suc last + suc last) (t .exps) 0 (s .powers) i h ∙ ap (up k low) (zero-add i)
 
   up-round : up k low (suc last) ≡ bits k 1
   up-round = sym (exp-at (suc last) (omega arith)) ∙ ap (bits k) (eqb→eq _ _ (s .round))
@@ -81,19 +81,19 @@ module _ (k : ℕ) (low : Bits k) (last : ℕ) (exps logs : List ℕ) (s : Sound
       ap (up k low) (mul-suc (suc last) j) ∙ up-add (suc last * j) (suc last)
       ∙ ap₂ (times k low) (up-rounds j) up-round ∙ times-one (bits k 1)
 
-  log-at : (m : ℕ) → suc m < 2 ^ k → (getD logs (suc m) 0 < suc last) × (getD exps (getD logs (suc m) 0) 0 ≡ suc m)
+  log-at : (m : ℕ) → suc m < 2 ^ k → (getD (t .logs) (suc m) 0 < suc last) × (getD (t .exps) (getD (t .logs) (suc m) 0) 0 ≡ suc m)
   unfolding entry
   log-at m h =
-      let t = below-at (entry last exps logs) (2 ^ k) (s .entries) (suc m) h in (
-        ltb→lt _ _ (and-left (ltb (getD logs (suc m) 0) (suc last)) (eqb (getD exps (getD logs (suc m) 0) 0) (suc m)) t),
-        eqb→eq _ _ (and-right (ltb (getD logs (suc m) 0) (suc last)) (eqb (getD exps (getD logs (suc m) 0) 0) (suc m)) t),
+      let test = below-at (entry last (t .exps) (t .logs)) (2 ^ k) (s .entries) (suc m) h in (
+        ltb→lt _ _ (and-left (ltb (getD (t .logs) (suc m) 0) (suc last)) (eqb (getD (t .exps) (getD (t .logs) (suc m) 0) 0) (suc m)) test),
+        eqb→eq _ _ (and-right (ltb (getD (t .logs) (suc m) 0) (suc last)) (eqb (getD (t .exps) (getD (t .logs) (suc m) 0) 0) (suc m)) test),
       )
 
   -- each number but 0 is the power of x at its exponent
-  pub log-up : (m : ℕ) → suc m < 2 ^ k → up k low (getD logs (suc m) 0) ≡ bits k (suc m)
+  pub log-up : (m : ℕ) → suc m < 2 ^ k → up k low (getD (t .logs) (suc m) 0) ≡ bits k (suc m)
   log-up m h =
       let l = log-at m h in
-      sym (exp-at (getD logs (suc m) 0) (omega (arith, l .0))) ∙ ap (bits k) (l .1)
+      sym (exp-at (getD (t .logs) (suc m) 0) (omega (arith, l .0))) ∙ ap (bits k) (l .1)
 
   bits-zero : bits k 0 ≡ zeros k
   bits-zero = equal-no k (bits k 0) (zeros k) (s .zero-bits)
@@ -104,7 +104,7 @@ module _ (k : ℕ) (low : Bits k) (last : ℕ) (exps logs : List ℕ) (s : Sound
     where
       by : (m : ℕ) → m < 2 ^ k → bits k m ≡ u → (i : ℕ) × (up k low i ≡ u)
       by zero h e = absurd (ne (sym e ∙ bits-zero))
-      by (suc m) h e = (getD logs (suc m) 0, log-up m h ∙ e)
+      by (suc m) h e = (getD (t .logs) (suc m) 0, log-up m h ∙ e)
 
   pub inverse-right : (u : Bits k) → (u ≡ zeros k → ⊥) → times k low u (inverse k low last u) ≡ bits k 1
   inverse-right u ne =
@@ -125,15 +125,15 @@ module _ (k : ℕ) (low : Bits k) (last : ℕ) (exps logs : List ℕ) (s : Sound
       times-x-times (bits k 1) (power (bits k 1) (times k low) (times-x k low (bits k 1)) i)
       ∙ ap (times-x k low) (comm (bits k 1) _ ∙ times-one _ ∙ root-up i)
 
-  up-log : (i : ℕ) → i < suc last → getD logs (number k (up k low i)) 0 ≡ i
+  up-log : (i : ℕ) → i < suc last → getD (t .logs) (number k (up k low i)) 0 ≡ i
   up-log i h =
-      ap (λ u. getD logs (number k u) 0) (sym (exp-at i (omega arith)))
-      ∙ eqb→eq _ _ (below-at (λ i. eqb (getD logs (number k (bits k (getD exps i 0))) 0) i) (suc last) (s .back) i h)
+      ap (λ u. getD (t .logs) (number k u) 0) (sym (exp-at i (omega arith)))
+      ∙ eqb→eq _ _ (below-at (λ i. eqb (getD (t .logs) (number k (bits k (getD (t .exps) i 0))) 0) i) (suc last) (s .back) i h)
 
   pub differ-powers : (i j : ℕ) → i < suc last → j < suc last
       → power (bits k 1) (times k low) (times-x k low (bits k 1)) i ≡ power (bits k 1) (times k low) (times-x k low (bits k 1)) j → i ≡ j
   differ-powers i j hi hj e =
-      sym (up-log i hi) ∙ ap (λ u. getD logs (number k u) 0) (sym (root-up i) ∙ e ∙ root-up j) ∙ up-log j hj
+      sym (up-log i hi) ∙ ap (λ u. getD (t .logs) (number k u) 0) (sym (root-up i) ∙ e ∙ root-up j) ∙ up-log j hj
 
   pub unequal : bits k 1 ≡ zeros k → ⊥
   unequal e = T-not (equal k (bits k 1) (zeros k)) (s .unequal) (T-true _ (subst (λ w. equal k (bits k 1) w ≡ true) e (equal-yes k (bits k 1))))
@@ -141,40 +141,40 @@ module _ (k : ℕ) (low : Bits k) (last : ℕ) (exps logs : List ℕ) (s : Sound
   -- what the tables are good for: the product by two exponents, and an inverse by a table of inverses
 
   -- an exponent is within the table of powers
-  pub log-le : (a : ℕ) → a < 2 ^ k → getD logs a 0 ≤ suc last + suc last
+  pub log-le : (a : ℕ) → a < 2 ^ k → getD (t .logs) a 0 ≤ suc last + suc last
   unfolding entry
-  log-le zero h = omega (arith, eqb→eq _ _ (below-at (entry last exps logs) (2 ^ k) (s .entries) 0 h))
+  log-le zero h = omega (arith, eqb→eq _ _ (below-at (entry last (t .exps) (t .logs)) (2 ^ k) (s .entries) 0 h))
   log-le (suc m) h = omega (arith, log-at m h .0)
 
   zero-times : (u : Bits k) → times k low (bits k 0) u ≡ zeros k
   zero-times u = ap (λ v. times k low v u) bits-zero ∙ comm (zeros k) u ∙ times-zeros k low u
 
   -- behind the powers stand zeros
-  zero-entry : (i : ℕ) → i ≤ suc last + suc last → bits k (getD exps (getD logs 0 0 + i) 0) ≡ zeros k
+  zero-entry : (i : ℕ) → i ≤ suc last + suc last → bits k (getD (t .exps) (getD (t .logs) 0 0 + i) 0) ≡ zeros k
   unfolding entry
   zero-entry i h =
-      let z : getD logs 0 0 ≡ suc last + suc last = eqb→eq _ _ (below-at (entry last exps logs) (2 ^ k) (s .entries) 0 (pow-pos k)) in
+      let z : getD (t .logs) 0 0 ≡ suc last + suc last = eqb→eq _ _ (below-at (entry last (t .exps) (t .logs)) (2 ^ k) (s .entries) 0 (pow-pos k)) in
       let l : i < suc (suc last + suc last) = omega arith in
-      ap (λ (n : ℕ). bits k (getD exps (n + i) 0)) z
-      ∙ ap (bits k) (eqb→eq _ _ (below-at (λ j. eqb (getD exps ((suc last + suc last) + j) 0) 0) (suc (suc last + suc last)) (s .padding) i l))
+      ap (λ (n : ℕ). bits k (getD (t .exps) (n + i) 0)) z
+      ∙ ap (bits k) (eqb→eq _ _ (below-at (λ j. eqb (getD (t .exps) ((suc last + suc last) + j) 0) 0) (suc (suc last + suc last)) (s .padding) i l))
       ∙ bits-zero
 
-  pub product : (a b : ℕ) → a < 2 ^ k → b < 2 ^ k → bits k (getD exps (getD logs a 0 + getD logs b 0) 0) ≡ times k low (bits k a) (bits k b)
-  product zero b ha hb = zero-entry (getD logs b 0) (log-le b hb) ∙ sym (zero-times (bits k b))
+  pub product : (a b : ℕ) → a < 2 ^ k → b < 2 ^ k → bits k (getD (t .exps) (getD (t .logs) a 0 + getD (t .logs) b 0) 0) ≡ times k low (bits k a) (bits k b)
+  product zero b ha hb = zero-entry (getD (t .logs) b 0) (log-le b hb) ∙ sym (zero-times (bits k b))
   product (suc a) zero ha hb =
-      ap (λ (i : ℕ). bits k (getD exps i 0)) (add-comm (getD logs (suc a) 0) (getD logs 0 0))
-      ∙ zero-entry (getD logs (suc a) 0) (log-le (suc a) ha) ∙ sym (comm (bits k (suc a)) (bits k 0) ∙ zero-times (bits k (suc a)))
+      ap (λ (i : ℕ). bits k (getD (t .exps) i 0)) (add-comm (getD (t .logs) (suc a) 0) (getD (t .logs) 0 0))
+      ∙ zero-entry (getD (t .logs) (suc a) 0) (log-le (suc a) ha) ∙ sym (comm (bits k (suc a)) (bits k 0) ∙ zero-times (bits k (suc a)))
   product (suc a) (suc b) ha hb =
-      exp-at (getD logs (suc a) 0 + getD logs (suc b) 0) (omega (arith, log-at a ha .0, log-at b hb .0))
-      ∙ up-add (getD logs (suc a) 0) (getD logs (suc b) 0) ∙ ap₂ (times k low) (log-up a ha) (log-up b hb)
+      exp-at (getD (t .logs) (suc a) 0 + getD (t .logs) (suc b) 0) (omega (arith, log-at a ha .0, log-at b hb .0))
+      ∙ up-add (getD (t .logs) (suc a) 0) (getD (t .logs) (suc b) 0) ∙ ap₂ (times k low) (log-up a ha) (log-up b hb)
 
   -- the product with a power of the root
   pub root-product : (a i : ℕ) → a < 2 ^ k → i ≤ suc last
-      → bits k (getD exps (getD logs a 0 + i) 0) ≡ times k low (bits k a) (power (bits k 1) (times k low) (times-x k low (bits k 1)) i)
+      → bits k (getD (t .exps) (getD (t .logs) a 0 + i) 0) ≡ times k low (bits k a) (power (bits k 1) (times k low) (times-x k low (bits k 1)) i)
   root-product zero i ha hi = zero-entry i (omega arith) ∙ sym (zero-times _)
   root-product (suc a) i ha hi =
-      exp-at (getD logs (suc a) 0 + i) (omega (arith, log-at a ha .0))
-      ∙ up-add (getD logs (suc a) 0) i ∙ ap₂ (times k low) (log-up a ha) (sym (root-up i))
+      exp-at (getD (t .logs) (suc a) 0 + i) (omega (arith, log-at a ha .0))
+      ∙ up-add (getD (t .logs) (suc a) 0) i ∙ ap₂ (times k low) (log-up a ha) (sym (root-up i))
 
   -- what has the product 1 with u is the inverse of u
   only-inverse : (u v : Bits k) → (u ≡ zeros k → ⊥) → times k low u v ≡ bits k 1 → v ≡ inverse k low last u
@@ -182,19 +182,19 @@ module _ (k : ℕ) (low : Bits k) (last : ℕ) (exps logs : List ℕ) (s : Sound
       sym (times-one v) ∙ ap (times k low v) (sym (inverse-right u ne)) ∙ sym (assoc v u (inverse k low last u))
       ∙ ap (λ w. times k low w (inverse k low last u)) (comm v u ∙ e) ∙ comm (bits k 1) _ ∙ times-one _
 
-  pub inverted : (invs : List ℕ) → T (below (turned k exps logs invs) (2 ^ k)) → (a : ℕ) → a < 2 ^ k
-      → bits k (getD invs a 0) ≡ inverse k low last (bits k a)
+  pub inverted : (a : ℕ) → a < 2 ^ k
+      → bits k (getD (t .invs) a 0) ≡ inverse k low last (bits k a)
   unfolding turned
-  inverted invs t zero h =
-      ap (bits k) (eqb→eq _ _ (below-at (turned k exps logs invs) (2 ^ k) t 0 h)) ∙ bits-zero
+  inverted zero h =
+      ap (bits k) (eqb→eq _ _ (below-at (turned k (t .exps) (t .logs) (t .invs)) (2 ^ k) (s .inverses) 0 h)) ∙ bits-zero
       ∙ sym (ap (inverse k low last) bits-zero ∙ inverse-zeros)
-  inverted invs t (suc a) h =
-      let x = below-at (turned k exps logs invs) (2 ^ k) t (suc a) h in
-      let l = ltb→lt _ _ (and-left (ltb (getD invs (suc a) 0) (2 ^ k)) (eqb (getD exps (getD logs (suc a) 0 + getD logs (getD invs (suc a) 0) 0) 0) 1) x) in
-      let e = eqb→eq _ _ (and-right (ltb (getD invs (suc a) 0) (2 ^ k)) (eqb (getD exps (getD logs (suc a) 0 + getD logs (getD invs (suc a) 0) 0) 0) 1) x) in
-      let p = sym (product (suc a) (getD invs (suc a) 0) h l) ∙ ap (bits k) e in
-      only-inverse (bits k (suc a)) (bits k (getD invs (suc a) 0))
-      (λ z. unequal (sym p ∙ ap (λ w. times k low w (bits k (getD invs (suc a) 0))) (z ∙ sym bits-zero) ∙ zero-times _)) p
+  inverted (suc a) h =
+      let x = below-at (turned k (t .exps) (t .logs) (t .invs)) (2 ^ k) (s .inverses) (suc a) h in
+      let l = ltb→lt _ _ (and-left (ltb (getD (t .invs) (suc a) 0) (2 ^ k)) (eqb (getD (t .exps) (getD (t .logs) (suc a) 0 + getD (t .logs) (getD (t .invs) (suc a) 0) 0) 0) 1) x) in
+      let e = eqb→eq _ _ (and-right (ltb (getD (t .invs) (suc a) 0) (2 ^ k)) (eqb (getD (t .exps) (getD (t .logs) (suc a) 0 + getD (t .logs) (getD (t .invs) (suc a) 0) 0) 0) 1) x) in
+      let p = sym (product (suc a) (getD (t .invs) (suc a) 0) h l) ∙ ap (bits k) e in
+      only-inverse (bits k (suc a)) (bits k (getD (t .invs) (suc a) 0))
+      (λ z. unequal (sym p ∙ ap (λ w. times k low w (bits k (getD (t .invs) (suc a) 0))) (z ∙ sym bits-zero) ∙ zero-times _)) p
 
   -- the rows of k bits with these tables are a field
   pub laws : Laws (operations k low last)

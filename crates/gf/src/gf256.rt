@@ -2,6 +2,7 @@
 ghost use Rattle.gf.specs.Bits.{Bits, bits};
 ghost use Rattle.gf.specs.Fields.{gf256};
 use super::field::Field;
+use super::products::ROOT_PRODUCTS_256;
 use super::tables::EXPONENTS_256;
 use super::tables::INVERSES_256;
 use super::tables::POWERS_256;
@@ -56,7 +57,6 @@ pub impl Field for Gf256 as Gf256Field {
     }
 
     fn times_root_power(self, exponent: usize) -> Gf256 {
-        let a = EXPONENTS_256[self.0 as usize] as usize;
-        Gf256(POWERS_256[a + exponent % 16])
+        Gf256(ROOT_PRODUCTS_256[exponent % 16][self.0 as usize])
     }
 }

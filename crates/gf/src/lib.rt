@@ -3,6 +3,7 @@ mod field;
 mod gf16;
 mod gf2;
 mod gf256;
+mod products;
 mod refusal;
 mod tables;
 

@@ -4,16 +4,16 @@ use native.Mathlib.Omega.{arith}
 use Rattle.gf.specs.Theory.{pow}
 use Rattle.gf.specs.Fields.{low16, gf16}
 use Rattle.gf.proofs.Powers.{root-product, log-le}
-use Rattle.gf.proofs.Fields.{exps16, logs16, sound16}
+use Rattle.gf.proofs.Fields.{tables16, sound16}
 use Rattle.gf.proofs.Numbers.{bits-mod}
 use Rattle.gf.proofs.gf16.Gf16Field.times_root_power.Needs as need
 
 pub index-a : need.index-a
-unfolding logs16
-index-a c = omega (arith, log-le 4 low16 14 exps16 logs16 sound16 (c .args .self .0 % 16) (omega arith))
+unfolding tables16
+index-a c = omega (arith, log-le 4 low16 14 tables16 sound16 (c .args .self .0 % 16) (omega arith))
 
 pub returns : need.returns
-unfolding logs16
+unfolding tables16
 returns c =
-    root-product 4 low16 14 exps16 logs16 sound16 (c .args .self .0 % 16) (c .args .exponent % 16) (omega arith) (omega arith)
+    root-product 4 low16 14 tables16 sound16 (c .args .self .0 % 16) (c .args .exponent % 16) (omega arith) (omega arith)
     ∙ ap (λ u. gf16 .mul u (pow gf16 (gf16 .root) (c .args .exponent % 16))) (bits-mod 4 (c .args .self .0))
