@@ -17,7 +17,8 @@ use Rattle.block.specs.declared.parameters.Layout.{Layout}
 use Rattle.block.specs.Bytes.{word}
 use Rattle.block.specs.Checks.{fire-word}
 use Rattle.block.specs.Layouts.{layout, read}
-use Rattle.block.specs.Headers.{starts, crowded, fills, fire-fits, spaced, laid, parted, opened}
+use Rattle.block.specs.Headers.{starts, crowded, fills}
+use Rattle.block.specs.Stages.{spaced, laid, parted, opened}
 
 module _ (size : ℕ) (block : List ℕ) (fire : ℕ) (covers : fire ≡ fire-word (take 9 (drop 2 block))) where
   -- the Fire word differs

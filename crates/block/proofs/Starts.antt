@@ -16,7 +16,8 @@ use Rattle.block.specs.declared.parameters.DacRate.the-variants.{Khz32, Khz48}
 use Rattle.block.specs.declared.parameters.Layout.{Layout}
 use Rattle.block.specs.Bytes.{unsigned}
 use Rattle.block.specs.Layouts.{layout}
-use Rattle.block.specs.Headers.{Fits, start, starts, crowded, fills}
+use Rattle.block.specs.Headers.{start, starts, crowded, fills}
+use Rattle.block.specs.Stages.{Fits}
 use Rattle.block.proofs.Reading.{unsigned-lower}
 
 pub layout-fits : (d : DacRate) (sbr : Bool) → Fits (layout d sbr)

@@ -1,34 +1,24 @@
--- The header of a super frame in its block: the starts of the units, and what is refused.
+-- The header of a super frame in its block: the starts of the units, what is refused, and the units.
 use mathlib.Core.Path.{_≡_}
-use mathlib.Core.Bool.{Bool, true, false, cond, not, _&&_, _||_}
+use mathlib.Core.Bool.{Bool, cond, not, _&&_, _||_}
 use mathlib.Core.List.{List, [], _∷_, map}
 use Prim.Native.Nat.{ℕ, zero, suc, _+_, _-_, _*_, _<_, _≤_}
 use lib.Dec.{eqb, ltb, leb}
 use lib.ListN.{length, getD, take, drop}
+use Rattle.std.specs.Options.{isSome, valueOr}
 use Rattle.std.specs.declared.option.Option.{Option}
 use Rattle.std.specs.declared.option.Option.the-variants.{Some, None}
 use Rattle.std.specs.declared.result.Result.{Result}
 use Rattle.std.specs.declared.result.Result.the-variants.{Ok, Err}
 use Rattle.gf.specs.declared.refusal.Refusal.{Refusal}
+use Rattle.gf.specs.declared.refusal.Refusal.the-variants.{Size, Buffer, Fire, Alignment, Starts, Index}
 use Rattle.gf.specs.declared.refusal.Refusal.the-variants as refusals
-use Rattle.block.specs.declared.fault.HeaderFault.{HeaderFault}
-use Rattle.block.specs.declared.fault.HeaderFault.the-variants as faults
-use Rattle.block.specs.declared.parameters.Parameters.{Parameters}
 use Rattle.block.specs.declared.parameters.Layout.{Layout}
 use Rattle.block.specs.declared.header.Header.{Header}
 use Rattle.block.specs.declared.header.UnitPlace.{UnitPlace}
 use Rattle.block.specs.Bytes.{unsigned, word}
 use Rattle.block.specs.Checks.{fire-word, unit-check}
-use Rattle.block.specs.Layouts.{refused, layout, read}
-
--- what every layout keeps: two to six units, a header of five to eleven bytes, and four bits behind the packed starts where they fill
--- its last byte
-pub record Fits (l : Layout) : Type 0 where
-  pub some : 2 ≤ l .units
-  pub few : l .units ≤ 6
-  pub long : 5 ≤ l .«header_length»
-  pub short : l .«header_length» ≤ 11
-  pub ends : l .aligned ≡ true → 24 + 12 * (l .units - 1) + 4 ≡ 8 * l .«header_length»
+use Rattle.block.specs.Layouts.{layout, parameters, right}
 
 -- start n: the first unit begins behind the header, the next ones where the 12-bit numbers say that are packed behind the parameters,
 -- and the last unit ends with the super frame's 110 bytes for each subchannel unit
@@ -54,62 +44,72 @@ fire-fits block = eqb (fire-word (take 9 (drop 2 block))) (word block 0)
 abbrev pub fills : Layout → List ℕ → Bool
 fills l packed = not (l .aligned) || eqb (unsigned packed (12 * (l .units - 1)) 4) 0
 
--- the header, unless a start is crowded
-abbrev pub spaced : ℕ → Parameters → List ℕ → Option ℕ → Result Header HeaderFault
-spaced size p places (Some n) = Err (faults.Starts n)
-spaced size p places None = Ok (record { size = size; parameters = p; starts = places })
+-- the value, unless the condition of a refusal holds: then the first such
+abbrev pub unless : {A : Type 0} → List (Bool × Refusal) → A → Result A Refusal
+unless [] value = Ok value
+unless (c ∷ cs) value = cond (c .0) (Err (c .1)) (unless cs value)
 
--- the header by what is packed behind the parameters
-abbrev pub laid : ℕ → List ℕ → Layout → Parameters → Result Header HeaderFault
-laid size packed l p =
-    cond (fills l packed) (spaced size p (starts l size packed) (crowded (starts l size packed) 1 (l .units)))
-    (Err (faults.Alignment (l .«header_length» - 1)))
+-- the subchannel index is 1 to 24, and the buffer has 120 bytes for each subchannel unit
+abbrev pub of-block : ℕ → List ℕ → List (Bool × Refusal) → List (Bool × Refusal)
+of-block size block others =
+    (not (leb 1 size && leb size 24), Size) ∷ (not (eqb (length block) (120 * size)), Buffer) ∷ others
 
--- the header by its parameters and what is packed behind them
-abbrev pub parted : ℕ → List ℕ → Result Parameters HeaderFault → Result Header HeaderFault
-parted size packed (Err fault) = Err fault
-parted size packed (Ok p) = laid size packed (layout (p .dac) (p .sbr)) p
+-- the layout that the parameter byte asks for
+abbrev pub layout-of : List ℕ → Layout
+layout-of block = layout (parameters (getD block 2 0) .dac) (parameters (getD block 2 0) .sbr)
 
--- the header of a block, or its first fault
-abbrev pub opened : ℕ → List ℕ → Result Header HeaderFault
-opened size block = cond (fire-fits block) (parted size (drop 3 block) (read (getD block 2 0))) (Err faults.Fire)
+-- what the bytes of a block write as its header, right or wrong
+abbrev pub written : ℕ → List ℕ → Header
+written size block = record {
+  size = size;
+  parameters = parameters (getD block 2 0);
+  starts = starts (layout-of block) size (drop 3 block);
+}
 
--- what a fault is to the caller
-abbrev pub answered : Result Header HeaderFault → Result Header Refusal
-answered (Ok header) = Ok header
-answered (Err fault) = Err (refused fault)
+-- the first start that is too near, of those that the block writes
+abbrev pub crowded-of : ℕ → List ℕ → Option ℕ
+crowded-of size block = crowded (starts (layout-of block) size (drop 3 block)) 1 (layout-of block .units)
 
--- the size and the buffer come before all else
-abbrev pub admitted : {A : Type 0} → ℕ → List ℕ → Result A Refusal → Result A Refusal
-admitted size block answer =
-    cond (leb 1 size && leb size 24) (cond (eqb (length block) (120 * size)) answer (Err refusals.Buffer)) (Err refusals.Size)
+-- the refusals of reading a header, each with its condition
+abbrev pub complaints : ℕ → List ℕ → List (Bool × Refusal)
+complaints size block =
+    of-block size block (
+    (not (fire-fits block), Fire)
+    ∷ (not (right (getD block 2 0)), refusals.Parameters)
+    ∷ (not (fills (layout-of block) (drop 3 block)), Alignment (layout-of block .«header_length» - 1))
+    ∷ (isSome (crowded-of size block), Starts (valueOr (crowded-of size block) 0))
+    ∷ []
+    )
 
--- The header of a block of the size, or the refusal.
+-- The header of a block, or the refusal.
 abbrev pub header : ℕ → List ℕ → Result Header Refusal
-header size block = admitted size block (answered (opened size block))
+header size block = unless (complaints size block) (written size block)
 
 -- how many units a header has
 abbrev pub unit-count : Header → ℕ
 unit-count h = layout (h .parameters .dac) (h .parameters .sbr) .units
 
--- unit n of a header: from its start to the next, without the two bytes of its check
+-- a header has unit n, with a byte at least and its check before the next start
+abbrev pub there : Header → ℕ → Bool
+there h n = ltb n (unit-count h) && leb (getD (h .starts) n 0 + 3) (getD (h .starts) (n + 1) 0)
+
+-- Unit n of a header: from its start to the next, without the two bytes of its check.
 abbrev pub unit-at : Header → ℕ → Result UnitPlace Refusal
 unit-at h n =
-    cond (ltb n (unit-count h) && leb (getD (h .starts) n 0 + 3) (getD (h .starts) (n + 1) 0))
-    (Ok (record { place = getD (h .starts) n 0; length = getD (h .starts) (n + 1) 0 - getD (h .starts) n 0 - 2 }))
-    (Err refusals.Index)
+    unless ((not (there h n), Index) ∷ [])
+    (record { place = getD (h .starts) n 0; length = getD (h .starts) (n + 1) 0 - getD (h .starts) n 0 - 2 })
 
--- whether the check behind the unit is right, where the unit is within the block
-abbrev pub checked : List ℕ → Result UnitPlace Refusal → Result Bool Refusal
-checked block (Err refusal) = Err refusal
-checked block (Ok unit) =
-    cond (leb (unit .place + unit .length + 2) (length block))
-    (Ok (eqb (unit-check (take (unit .length) (drop (unit .place) block))) (word block (unit .place + unit .length))))
-    (Err refusals.Index)
+-- the two bytes before the next start are the check of the bytes between
+abbrev pub check-fits : Header → List ℕ → ℕ → Bool
+check-fits h block n =
+    let begin = getD (h .starts) n 0 in
+    let end = getD (h .starts) (n + 1) 0 - 2 in
+    eqb (unit-check (take (end - begin) (drop begin block))) (word block end)
 
 -- Whether unit n's check is right, or the refusal.
 abbrev pub good : Header → List ℕ → ℕ → Result Bool Refusal
-good h block n = admitted (h .size) block (checked block (unit-at h n))
+good h block n =
+    unless (of-block (h .size) block ((not (there h n && leb (getD (h .starts) (n + 1) 0) (length block)), Index) ∷ [])) (check-fits h block n)
 
 -- The units of a header stand one behind another from the header's end to the super frame's, each with a byte at least and its check.
 pub record Tiles (h : Header) : Type 0 where

@@ -3,3 +3,4 @@ pub mod Bytes
 pub mod Checks
 pub mod Layouts
 pub mod Headers
+pub mod Stages

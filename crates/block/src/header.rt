@@ -4,9 +4,9 @@ ghost use mathlib.Core.Bool.{true};
 ghost use Prim.Native.Nat.{_+_, _*_, _<_, _≤_};
 ghost use lib.ListN.{length};
 ghost use Rattle.std.specs.Vec.{made};
-ghost use Rattle.std.specs.declared.result.Result.the-variants.{Ok};
 ghost use Rattle.block.specs.Bytes.{unsigned};
-ghost use Rattle.block.specs.Headers.{starts as expected, crowded, fills, spaced, opened, header, unit-at, good, admitted, Fits, Tiles};
+ghost use Rattle.block.specs.Headers.{starts as expected, crowded, fills, header, unit-at, good, Tiles};
+ghost use Rattle.block.specs.Stages.{Fits, spaced, opened, blocked};
 use super::checks::fire_word;
 use super::checks::unit_check;
 use super::fault::HeaderFault;
@@ -132,7 +132,7 @@ fn open(size: usize, block: &[u8]) -> Result<Header, HeaderFault>
 
 // Whether the subchannel index is 1 to 24, and the buffer as long as its block.
 fn check_block(size: usize, block: &[u8]) -> Result<(), Refusal>
-    ensures { λ r. ⌜ r ≡ admitted size (now (block .entry)) (Ok tt) ⌝ }
+    ensures { λ r. ⌜ r ≡ blocked size (now (block .entry)) ⌝ }
 {
     if size < 1 || size > 24 {
         return Err(Refusal::Size);
