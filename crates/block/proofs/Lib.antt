@@ -4,6 +4,5 @@ pub mod Packing
 pub mod Reading
 pub mod Starts
 pub mod Opening
-pub mod Refusing
 pub mod Units
 pub mod Tiling

@@ -1,23 +1,32 @@
 -- Whether a unit's check is right, test by test.
-use mathlib.Core.Path.{_≡_, refl, sym, ap, ap₂, subst, _∙_}
+use mathlib.Core.Path.{_≡_, refl, sym, ap, ap₂, _∙_}
 use mathlib.Core.Bool.{Bool, true, false, cond, not, _&&_}
 use mathlib.Core.List.{List, [], _∷_}
-use Prim.Native.Nat.{ℕ, _+_, _-_, _*_, _<_, _≤_}
+use Prim.Native.Nat.{ℕ, _+_, _-_, _*_, _≤_}
 use native.Mathlib.Omega.{arith}
 use lib.Dec.{eqb, ltb, leb}
 use lib.ListN.{length, getD, take, drop}
-use borrow.Author.Tests.{le-leb, lt-leb, leb-true}
-use Rattle.std.specs.declared.result.Result.{Result}
+use borrow.Author.Tests.{le-leb, leb-true}
 use Rattle.std.specs.declared.result.Result.the-variants.{Ok, Err}
 use Rattle.gf.specs.declared.refusal.Refusal.{Refusal}
-use Rattle.gf.specs.declared.refusal.Refusal.the-variants.{Index}
+use Rattle.gf.specs.declared.refusal.Refusal.the-variants.{Size, Buffer, Index}
 use Rattle.block.specs.declared.header.Header.{Header}
 use Rattle.block.specs.declared.header.UnitPlace.{UnitPlace}
 use Rattle.block.specs.Bytes.{word}
 use Rattle.block.specs.Checks.{unit-check}
-use Rattle.block.specs.Headers.{unless, unit-count, there, unit-at, check-fits, good}
+use Rattle.block.specs.Headers.{unless, of-block, unit-count, there, unit-at, check-fits, good}
 use Rattle.block.specs.Stages.{blocked}
-use Rattle.block.proofs.Refusing.{past-block}
+
+-- where the size and the buffer are right, the other conditions decide
+past-block : {A : Type 0} (size : ℕ) (block : List ℕ) (done : Unit {0}) → Ok done ≡ blocked size block
+    → (others : List (Bool × Refusal)) (value : A) → unless (of-block size block others) value ≡ unless others value
+past-block {A} size block done e others value = by (not (leb 1 size && leb size 24)) (not (eqb (length block) (120 * size))) e
+  where
+    by : (a b : Bool) → Ok done ≡ cond a (Err Size) (cond b (Err Buffer) (Ok tt))
+        → cond a (Err Size) (cond b (Err Buffer) (unless others value)) ≡ unless others value
+    by true b e = absurd (let z : _≡_ {A = ℕ} 0 1 = cc in omega arith)
+    by false true e = absurd (let z : _≡_ {A = ℕ} 0 1 = cc in omega arith)
+    by false false e = refl
 
 module _ (h : Header) (block : List ℕ) (n : ℕ) (done : Unit {0}) (e : Ok done ≡ blocked (h .size) block) where
   abbrev begin : ℕ
@@ -26,18 +35,9 @@ module _ (h : Header) (block : List ℕ) (n : ℕ) (done : Unit {0}) (e : Ok don
   abbrev next : ℕ
   next = getD (h .starts) (n + 1) 0
 
-  good-past : good h block n ≡ unless ((not (there h n && leb (next) (length block)), Index) ∷ []) (check-fits h block n)
+  good-past : good h block n ≡ unless ((not (there h n && leb next (length block)), Index) ∷ []) (check-fits h block n)
   good-past =
-      past-block (h .size) block done e ((not (there h n && leb (next) (length block)), Index) ∷ []) (check-fits h block n)
-
-  -- the header has no such unit
-  pub good-nowhere : (refusal : Refusal) → Err refusal ≡ unit-at h n → Err refusal ≡ good h block n
-  good-nowhere refusal absent = by (there h n) absent ∙ sym good-past
-    where
-      by : (t : Bool) → _≡_ {A = Result UnitPlace Refusal} (Err refusal) (unless ((not t, Index) ∷ []) (record { place = begin; length = next - begin - 2 }))
-          → Err refusal ≡ unless ((not (t && leb (next) (length block)), Index) ∷ []) (check-fits h block n)
-      by true absent = absurd (let z : _≡_ {A = ℕ} 0 1 = cc in omega arith)
-      by false absent = ap Err (let q : refusal ≡ Index = cc in q)
+      past-block (h .size) block done e ((not (there h n && leb next (length block)), Index) ∷ []) (check-fits h block n)
 
   -- the header has it
   module _ (unit : UnitPlace) (present : Ok unit ≡ unit-at h n) where
@@ -45,9 +45,9 @@ module _ (h : Header) (block : List ℕ) (n : ℕ) (done : Unit {0}) (e : Ok don
     Found = (there h n ≡ true) × (unit .place ≡ begin) × (unit .length ≡ next - begin - 2) × (begin + 3 ≤ next)
 
     found : Found
-    found = by (ltb n (unit-count h)) (leb (begin + 3) (next)) refl present
+    found = by (ltb n (unit-count h)) (leb (begin + 3) next) refl present
       where
-        by : (a b : Bool) → leb (begin + 3) (next) ≡ b
+        by : (a b : Bool) → leb (begin + 3) next ≡ b
             → Ok unit ≡ unless ((not (a && b), Index) ∷ []) (record { place = begin; length = next - begin - 2 })
             → ((a && b) ≡ true) × (unit .place ≡ begin) × (unit .length ≡ next - begin - 2)
             × (begin + 3 ≤ next)
@@ -57,13 +57,7 @@ module _ (h : Header) (block : List ℕ) (n : ℕ) (done : Unit {0}) (e : Ok don
         by true false t p = absurd (let z : _≡_ {A = ℕ} 0 1 = cc in omega arith)
         by false b t p = absurd (let z : _≡_ {A = ℕ} 0 1 = cc in omega arith)
 
-    -- but the block ends before it
-    pub good-outside : length block < unit .place + unit .length + 2 → Err Index ≡ good h block n
-    good-outside short =
-        sym (good-past ∙ ap (λ b. unless ((not b, Index) ∷ []) (check-fits h block n))
-        (ap₂ _&&_ (found .0) (lt-leb (next) (length block) (omega (arith, found)))))
-
-    -- and it is within the block
+    -- and the block has it whole
     pub good-is : unit .place + unit .length + 2 ≤ length block
         → (check : ℕ) → check ≡ unit-check (take (unit .length) (drop (unit .place) block))
         → Ok (eqb check (word block (unit .place + unit .length))) ≡ good h block n
@@ -72,4 +66,4 @@ module _ (h : Header) (block : List ℕ) (n : ℕ) (done : Unit {0}) (e : Ok don
         let long : unit .length ≡ next - 2 - begin = omega (arith, found) in
         ap₂ (λ (x y : ℕ). Ok (eqb x (word block y))) (is ∙ ap₂ (λ (k at : ℕ). unit-check (take k (drop at block))) long (found .1)) end
         ∙ sym (good-past ∙ ap (λ b. unless ((not b, Index) ∷ []) (check-fits h block n))
-        (ap₂ _&&_ (found .0) (le-leb (next) (length block) (omega (arith, found)))))
+        (ap₂ _&&_ (found .0) (le-leb next (length block) (omega (arith, found)))))

@@ -54,7 +54,8 @@ module _ {E : Type 0} (f : Operations E) where
     pub sized : length lower ≡ places
     pub some : 0 < places
 
-  -- what a division answers: the remainder, or a refusal that leaves the places as they were
-  abbrev pub Answered : {S : Type 0} → (S → E) → Bool → List E → List E → Result Unit Refusal → List S → List S → Type 0
-  Answered mean ok message divisor answer before after =
-      When ok ((answer ≡ Ok tt) × Remainder message divisor (map mean after)) ((answer ≡ Err Shape) × (after ≡ before))
+  -- What a division of the message answers: the remainder, or a refusal that leaves the places as they were.
+  abbrev pub Answered : {S : Type 0} → (S → E) → List E → List S → Result Unit Refusal → List S → List S → Type 0
+  Answered mean message divisor answer before after =
+      When (admitted (map mean divisor) (length before)) ((answer ≡ Ok tt) × Remainder message (map mean divisor) (map mean after))
+      ((answer ≡ Err Shape) × (after ≡ before))

@@ -63,7 +63,7 @@ fn admitted_tail<F: Field>(divisor: &[F], places: usize) -> Option<&[F]>
 // Writes the remainder of the message by the divisor to `rest`, all from the highest power down.
 // The divisor has degree 1 to 16 and begins with one, and `rest` has as many symbols as the degree.
 pub fn remainder<F: Field>(message: &[F], divisor: &[F], rest: &mut [F]) -> Result<(), Refusal>
-    ensures { λ r. ⌜ Answered field mean (admitted field (map mean (now (divisor .entry))) (length (now (rest .entry)))) (map mean (now (message .entry))) (map mean (now (divisor .entry))) r (now (rest .entry)) (now (rest .exit)) ⌝ }
+    ensures { λ r. ⌜ Answered field mean (map mean (now (message .entry))) (now (divisor .entry)) r (now (rest .entry)) (now (rest .exit)) ⌝ }
 {
     let Some(tail) = admitted_tail(divisor, rest.len()) else {
         return Err(Refusal::Shape);
@@ -79,7 +79,7 @@ pub fn continue_remainder<F: Field>(
     divisor: &[F],
     rest: &mut [F],
 ) -> Result<(), Refusal>
-    ensures { λ r. ⌜ Answered field mean (admitted field (map mean (now (divisor .entry))) (length (now (rest .entry)))) (map mean (now (rest .entry)) ++ map mean (now (message .entry))) (map mean (now (divisor .entry))) r (now (rest .entry)) (now (rest .exit)) ⌝ }
+    ensures { λ r. ⌜ Answered field mean (map mean (now (rest .entry)) ++ map mean (now (message .entry))) (now (divisor .entry)) r (now (rest .entry)) (now (rest .exit)) ⌝ }
 {
     let Some(tail) = admitted_tail(divisor, rest.len()) else {
         return Err(Refusal::Shape);

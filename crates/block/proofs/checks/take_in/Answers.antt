@@ -16,6 +16,6 @@ returns c =
     let generator = meanings (c .args .generator .now) in
     let register = c .add-byte .last .register in
     let mean : Gf2 → _ = λ s. bits 1 (s .0) in
-    answered-value gf2 mean (admitted gf2 generator (length register)) (meanings register ++ replicate 8 (bits 1 0)) generator (c .continue-remainder .result)
+    answered-value gf2 mean (meanings register ++ replicate 8 (bits 1 0)) (c .args .generator .now) (c .continue-remainder .result)
     register (c .continue-remainder .last .rest) (c .continue-remainder .ensures) (ap (admitted gf2 generator) (c .add-byte .array-long) ∙ c .pre)
     ∙ ap₂ (λ r z. remainder-of gf2 (r ++ replicate 8 z) generator) (c .add-byte .ensures) (bits-zero 1)
