@@ -69,7 +69,7 @@ module _ (start generator : List (Bits 1)) (sized : length start ≡ 16) (ok : a
       sym (ap₂ (remainder-of gf2) (covered-fed start [] sized ∙ ap (over gf2 (zeros gf2 16)) (append-nil start)
       ∙ over-zeros laws2 16 start (omega (arith, sized))) (b .1) ∙ remainder-short laws2 (b .0) start (sized ∙ sym (b .2)))
     where
-      b : (d : List (Bits 1)) × (generator ≡ gf2 .one ∷ d) × (length d ≡ 16)
+      b : (d : List (Bits 1)) × (generator ≡ gf2 .one ∷ d) × (length d ≡ 16) × (1 ≤ 16)
       b = admitted-begins laws2 16 generator ok
 
   -- a byte more
@@ -86,7 +86,7 @@ module _ (start generator : List (Bits 1)) (sized : length start ≡ 16) (ok : a
       ∙ ap₂ (λ (n : ℕ) p. fed laws2 n start p) (sym (b .2)) (polynomial-append bytes (byte ∷ []) ∙ ap (λ p. polynomial bytes ++ p) (append-nil (byte-bits byte))))
       ∙ feed laws2 (b .0) start (polynomial bytes) (byte-bits byte) (sized ∙ sym (b .2)) (omega (arith, length-byte byte, b .2)))) held
     where
-      b : (d : List (Bits 1)) × (generator ≡ gf2 .one ∷ d) × (length d ≡ 16)
+      b : (d : List (Bits 1)) × (generator ≡ gf2 .one ∷ d) × (length d ≡ 16) × (1 ≤ 16)
       b = admitted-begins laws2 16 generator ok
 
       g : List (Bits 1)

@@ -2,13 +2,12 @@
 ghost use mathlib.Core.Path.{_≡_};
 ghost use mathlib.Core.Bool.{true};
 ghost use mathlib.Core.List.{map, _++_};
-ghost use Prim.Native.Nat.{_+_, _-_};
-ghost use lib.ListN.{length, replicate};
+ghost use lib.ListN.{replicate};
 ghost use Rattle.gf.specs.Bits.{bits};
 ghost use Rattle.gf.specs.Fields.{gf2};
 ghost use Rattle.codes.specs.Polynomials.{zeros, over};
 ghost use Rattle.codes.specs.Division.{admitted, remainder-of};
-ghost use Rattle.block.specs.Checks.{byte-bits, binary, covered, fire-word, unit-check, meanings};
+ghost use Rattle.block.specs.Checks.{byte-bits, polynomial, binary, covered, fire-generator, unit-generator, fire-word, unit-check, meanings};
 use codes::continue_remainder;
 use gf::Field;
 use gf::Gf2;
@@ -118,16 +117,35 @@ fn packed(symbols: &[Gf2; 16]) -> u16
     word
 }
 
+// The number that the complements of the bits write.
+fn packed_complement(symbols: &[Gf2; 16]) -> u16
+    ensures { λ r. ⌜ r ≡ binary 0 (map (gf2 .add (gf2 .one)) (meanings (now (symbols .entry)))) ⌝ }
+{
+    !packed(symbols)
+}
+
+fn fire_remainder(bytes: &[u8]) -> [Gf2; 16]
+    ensures { λ r. ⌜ meanings r ≡ remainder-of gf2 (polynomial (now (bytes .entry)) ++ zeros gf2 16) fire-generator ⌝ }
+{
+    divide(bytes, &FIRE_GENERATOR, ZERO)
+}
+
+fn unit_remainder(unit: &[u8]) -> [Gf2; 16]
+    ensures { λ r. ⌜ meanings r ≡ remainder-of gf2 (covered (replicate 16 (gf2 .one)) (now (unit .entry))) unit-generator ⌝ }
+{
+    divide(unit, &UNIT_GENERATOR, ONE)
+}
+
 // The Fire word of bytes: the remainder of the bytes times x^16. In a header these are bytes 2 to 10.
 pub fn fire_word(bytes: &[u8]) -> u16
     ensures { λ r. ⌜ r ≡ fire-word (now (bytes .entry)) ⌝ }
 {
-    packed(&divide(bytes, &FIRE_GENERATOR, ZERO))
+    packed(&fire_remainder(bytes))
 }
 
 // The check that belongs to a unit: the complement of the remainder, which starts with sixteen ones.
 pub fn unit_check(unit: &[u8]) -> u16
     ensures { λ r. ⌜ r ≡ unit-check (now (unit .entry)) ⌝ }
 {
-    !packed(&divide(unit, &UNIT_GENERATOR, ONE))
+    packed_complement(&unit_remainder(unit))
 }

@@ -1,76 +1,51 @@
--- Which divisors are admitted.
+-- Which divisors are admitted, and what they begin with.
 use mathlib.Core.Path.{_≡_, refl, sym, ap, ap₂, _∙_}
 use mathlib.Core.Bool.{Bool, true, false, _&&_}
-use mathlib.Core.List.{List, [], _∷_, map}
-use Prim.Native.Nat.{ℕ, suc, _-_, _<_, _≤_}
+use mathlib.Core.List.{List, [], _∷_}
+use Prim.Native.Nat.{ℕ, _+_, _≤_}
 use native.Mathlib.Omega.{arith}
 use lib.Dec.{leb, eqb}
-use lib.ListN.{length, getD, take, drop, length-map}
+use lib.ListN.{length, getD}
 use borrow.Author.Tests.{leb-true, eqb-true, le-leb, eq-eqb, clash}
-use Rattle.std.proofs.shelf.Lists.{take-rest}
 use Rattle.gf.specs.Theory.{Operations, Laws}
-use Rattle.codes.specs.Division.{admitted, Admitted}
+use Rattle.codes.specs.Division.{admitted}
 
-and-true : (a b : Bool) → a ≡ true → b ≡ true → (a && b) ≡ true
-and-true a b p q = ap₂ _&&_ p q
+-- all four tests
+four : (a b c t : Bool) → (a && (b && (c && t))) ≡ true → (a ≡ true) × (b ≡ true) × (c ≡ true) × (t ≡ true)
+four true true true true e = (refl, refl, refl, refl)
+four true true true false e = absurd (clash e)
+four true true false t e = absurd (clash e)
+four true false c t e = absurd (clash e)
+four false b c t e = absurd (clash e)
 
-module _ {E : Type 0} (f : Operations E) (places : ℕ) where
-  pub admitted-yes : (w : List E) → 1 ≤ places → places ≤ 16 → suc places ≡ length w → f .equal (getD w 0 (f .zero)) (f .one) ≡ true
-      → admitted f w places ≡ true
-  admitted-yes [] low high e same = absurd (omega arith)
-  admitted-yes (lead ∷ d) low high e same =
-      and-true _ _ (le-leb 1 places low) (and-true _ _ (le-leb places 16 high) (and-true _ _ (eq-eqb places (length d) (omega arith)) same))
+-- the first three fail
+three : (a b c t : Bool) → (a ≡ true → b ≡ true → c ≡ true → ⊥) → (a && (b && (c && t))) ≡ false
+three true true true t no-shape = absurd (no-shape refl refl refl)
+three true true false t no-shape = refl
+three true false c t no-shape = refl
+three false b c t no-shape = refl
 
-  pub admitted-no : (w : List E) → (1 ≤ places → places ≤ 16 → suc places ≡ length w → ⊥) → admitted f w places ≡ false
-  admitted-no [] no-shape = refl
-  admitted-no (lead ∷ d) no-shape = by (leb 1 places) (leb places 16) (eqb places (length d)) refl refl refl
-    where
-      by : (a b c : Bool) → leb 1 places ≡ a → leb places 16 ≡ b → eqb places (length d) ≡ c
-          → (a && (b && (c && f .equal lead (f .one)))) ≡ false
-      by true true true p q r =
-          absurd (no-shape (leb-true 1 places p) (leb-true places 16 q) (ap suc (eqb-true places (length d) r)))
-      by true true false p q r = refl
-      by true false c p q r = refl
-      by false b c p q r = refl
+module _ {E : Type 0} (f : Operations E) (places : ℕ) (w : List E) where
+  -- the sizes are right: the leading symbol decides
+  pub admitted-by-lead : 1 ≤ places → places ≤ 16 → length w ≡ places + 1 → f .equal (getD w 0 (f .zero)) (f .one) ≡ admitted f w places
+  admitted-by-lead low high e =
+      sym (ap₂ (λ a b. a && (b && (eqb (length w) (places + 1) && f .equal (getD w 0 (f .zero)) (f .one)))) (le-leb 1 places low) (le-leb places 16 high)
+      ∙ ap (λ c. c && f .equal (getD w 0 (f .zero)) (f .one)) (eq-eqb (length w) (places + 1) e))
+
+  -- the sizes are wrong
+  pub admitted-no : (1 ≤ places → places ≤ 16 → length w ≡ places + 1 → ⊥) → admitted f w places ≡ false
+  admitted-no no-shape =
+      three (leb 1 places) (leb places 16) (eqb (length w) (places + 1)) (f .equal (getD w 0 (f .zero)) (f .one))
+      (λ a b c. no-shape (leb-true 1 places a) (leb-true places 16 b) (eqb-true (length w) (places + 1) c))
 
 -- an admitted divisor is one and as many symbols as there are places
 pub admitted-begins : {E : Type 0} {f : Operations E} (l : Laws f) (places : ℕ) (w : List E) → admitted f w places ≡ true
-    → (d : List E) × (w ≡ f .one ∷ d) × (length d ≡ places)
-admitted-begins {E = E} {f = f} l places [] e = absurd (clash e)
-admitted-begins {E = E} {f = f} l places (lead ∷ d) e =
-    by (leb 1 places) (leb places 16) (eqb places (length d)) (f .equal lead (f .one)) refl refl e
+    → (d : List E) × (w ≡ f .one ∷ d) × (length d ≡ places) × (1 ≤ places)
+admitted-begins {E = E} {f = f} l places w e =
+    let t = four (leb 1 places) (leb places 16) (eqb (length w) (places + 1)) (f .equal (getD w 0 (f .zero)) (f .one)) e in
+    by w (eqb-true (length w) (places + 1) (t .2)) (l .equal-no (getD w 0 (f .zero)) (f .one) (t .3)) (leb-true 1 places (t .0))
   where
-    by : (a b c t : Bool) → eqb places (length d) ≡ c → f .equal lead (f .one) ≡ t → (a && (b && (c && t))) ≡ true
-        → (tail : List E) × (lead ∷ d ≡ f .one ∷ tail) × (length tail ≡ places)
-    by true true true true p q r = (d, ap (λ a. a ∷ d) (l .equal-no lead (f .one) q), sym (eqb-true places (length d) p))
-    by true true true false p q r = absurd (clash r)
-    by true true false t p q r = absurd (clash r)
-    by true false c t p q r = absurd (clash r)
-    by false b c t p q r = absurd (clash r)
-
--- the first symbol, and the others behind it
-split : {S : Type 0} (xs : List S) (x : S) → 0 < length xs → x ≡ getD xs 0 x → xs ≡ x ∷ take (length xs - 1) (drop 1 xs)
-split [] x h e = absurd (omega arith)
-split (y ∷ ys) x h e = ap₂ (λ a b. a ∷ b) (sym e) (sym (take-rest (y ∷ ys) 1))
-
--- a divisor that has passed the tests
-pub admits : {E S : Type 0} {f : Operations E} (l : Laws f) (mean : S → E) (xs : List S) (x : S) (places : ℕ)
-    → 0 < length xs → x ≡ getD xs 0 x → 1 ≤ places → places ≤ 16 → places ≡ length (take (length xs - 1) (drop 1 xs))
-    → f .equal (mean x) (f .one) ≡ true
-    → Admitted f mean xs places (take (length xs - 1) (drop 1 xs))
-admits {S = S} {f = f} l mean xs x places h e low high sized same = record {
-  yes = admitted-yes f places (map mean xs) low high (omega (arith, long, length-map xs mean))
-      (ap (λ w. f .equal (getD (map mean w) 0 (f .zero)) (f .one)) whole ∙ same);
-  begins = ap (map mean) whole ∙ ap (λ a. a ∷ map mean rest) (l .equal-no (mean x) (f .one) same);
-  sized = sym sized;
-  some = low;
-}
-  where
-    rest : List S
-    rest = take (length xs - 1) (drop 1 xs)
-
-    whole : xs ≡ x ∷ rest
-    whole = split xs x h e
-
-    long : length xs ≡ suc (length rest)
-    long = ap length whole
+    by : (w : List E) → length w ≡ places + 1 → getD w 0 (f .zero) ≡ f .one → 1 ≤ places
+        → (d : List E) × (w ≡ f .one ∷ d) × (length d ≡ places) × (1 ≤ places)
+    by [] long lead low = absurd (omega arith)
+    by (a ∷ d) long lead low = (d, ap (λ x. x ∷ d) lead, omega arith, low)

@@ -1,10 +1,10 @@
 -- The remainder of a division by a polynomial that begins with one.
 use mathlib.Core.Path.{_≡_}
-use mathlib.Core.Bool.{Bool, true, false, _&&_}
+use mathlib.Core.Bool.{Bool, _&&_}
 use mathlib.Core.List.{List, [], _∷_, _++_, tail, map}
-use Prim.Native.Nat.{ℕ, zero, suc, _+_, _<_}
+use Prim.Native.Nat.{ℕ, zero, suc, _+_}
 use lib.Dec.{leb, eqb}
-use lib.ListN.{length}
+use lib.ListN.{length, getD}
 use Rattle.std.specs.Orderings.{When}
 use Rattle.std.specs.declared.result.Result.{Result}
 use Rattle.std.specs.declared.result.Result.the-variants.{Ok, Err}
@@ -44,15 +44,8 @@ module _ {E : Type 0} (f : Operations E) where
 
   -- a divisor of degree 1 to 16 that begins with one, and as many places for the rest as its degree
   abbrev pub admitted : List E → ℕ → Bool
-  admitted [] places = false
-  admitted (lead ∷ d) places = leb 1 places && (leb places 16 && (eqb places (length d) && f .equal lead (f .one)))
-
-  -- the divisor is admitted, and is `lower` with one in front
-  pub record Admitted {S : Type 0} (mean : S → E) (divisor : List S) (places : ℕ) (lower : List S) : Type 0 where
-    pub yes : admitted (map mean divisor) places ≡ true
-    pub begins : map mean divisor ≡ f .one ∷ map mean lower
-    pub sized : length lower ≡ places
-    pub some : 0 < places
+  admitted divisor places =
+      leb 1 places && (leb places 16 && (eqb (length divisor) (places + 1) && f .equal (getD divisor 0 (f .zero)) (f .one)))
 
   -- What a division of the message answers: the remainder, or a refusal that leaves the places as they were.
   abbrev pub Answered : {S : Type 0} → (S → E) → List E → List S → Result Unit Refusal → List S → List S → Type 0

@@ -1,12 +1,11 @@
 // Long division over every field, of messages of any length, whole or in parts.
 ghost use mathlib.Core.Path.{_≡_};
-ghost use mathlib.Core.Bool.{false};
+ghost use mathlib.Core.Bool.{true};
 ghost use mathlib.Core.List.{map, _++_};
-ghost use Prim.Native.Nat.{_<_};
+ghost use Prim.Native.Nat.{_+_, _<_, _≤_};
 ghost use lib.ListN.{length};
-ghost use Rattle.std.specs.Options.{Cases as BySome};
 ghost use Rattle.codes.specs.Polynomials.{zeros};
-ghost use Rattle.codes.specs.Division.{admitted, Admitted, divided, stepped, Answered};
+ghost use Rattle.codes.specs.Division.{admitted, divided, stepped, Remainder, Answered};
 use gf::Field;
 use gf::Refusal;
 
@@ -24,8 +23,8 @@ fn step<F: Field>(tail: &[F], symbol: F, rest: &mut [F])
     rest[last] = symbol.add(highest.mul(tail[last]).neg());
 }
 
-// Divides what `rest` holds, followed by the message.
-fn divide<F: Field>(message: &[F], tail: &[F], rest: &mut [F])
+// Takes the message in, symbol by symbol.
+fn take_in<F: Field>(message: &[F], tail: &[F], rest: &mut [F])
     requires { ⌜ length (now rest) ≡ length (now tail) ⌝ ∗ ⌜ 0 < length (now tail) ⌝ }
     ensures { λ _. ⌜ map mean (now (rest .exit)) ≡ divided field (map mean (now (tail .entry))) (length (now (message .entry))) (map mean (now (rest .entry)) ++ map mean (now (message .entry))) ⌝ }
 {
@@ -44,20 +43,37 @@ fn clear<F: Field>(symbols: &mut [F])
     }
 }
 
-// The divisor without its leading one, where a division admits it and so many places for the rest.
-fn admitted_tail<F: Field>(divisor: &[F], places: usize) -> Option<&[F]>
-    ensures { λ r. ⌜ BySome r (admitted field (map mean (now (divisor .entry))) places ≡ false) (λ tail. Admitted field mean (now (divisor .entry)) places (now tail)) ⌝ }
+// Whether a division admits the divisor, and so many places for the rest.
+fn is_admitted<F: Field>(divisor: &[F], places: usize) -> bool
+    ensures value { λ r. ⌜ r ≡ admitted field (map mean (now (divisor .entry))) places ⌝ }
+    ensures sizes { λ r. ⌜ (r ≡ true → (1 ≤ places) × (length (now (divisor .entry)) ≡ places + 1)) ⌝ }
 {
-    let [lead, tail @ ..] = divisor else {
-        return None;
-    };
-    if places < 1 || places > 16 || places != tail.len() {
-        return None;
+    if places < 1 || places > 16 {
+        return false;
     }
-    if !lead.same(F::one()) {
-        return None;
+    if divisor.len() != places + 1 {
+        return false;
     }
-    Some(tail)
+    divisor[0].same(F::one())
+}
+
+// Divides what `rest` holds, with the message behind it.
+fn divide_behind<F: Field>(message: &[F], divisor: &[F], rest: &mut [F])
+    requires shape { ⌜ admitted field (map mean (now divisor)) (length (now rest)) ≡ true ⌝ }
+    requires sizes { ⌜ 1 ≤ length (now rest) ⌝ ∗ ⌜ length (now divisor) ≡ length (now rest) + 1 ⌝ }
+    ensures { λ _. ⌜ Remainder field (map mean (now (rest .entry)) ++ map mean (now (message .entry))) (map mean (now (divisor .entry))) (map mean (now (rest .exit))) ⌝ }
+{
+    take_in(message, &divisor[1..], rest);
+}
+
+// Divides the message alone.
+fn divide<F: Field>(message: &[F], divisor: &[F], rest: &mut [F])
+    requires shape { ⌜ admitted field (map mean (now divisor)) (length (now rest)) ≡ true ⌝ }
+    requires sizes { ⌜ 1 ≤ length (now rest) ⌝ ∗ ⌜ length (now divisor) ≡ length (now rest) + 1 ⌝ }
+    ensures { λ _. ⌜ Remainder field (map mean (now (message .entry))) (map mean (now (divisor .entry))) (map mean (now (rest .exit))) ⌝ }
+{
+    clear(rest);
+    divide_behind(message, divisor, rest);
 }
 
 // Writes the remainder of the message by the divisor to `rest`, all from the highest power down.
@@ -65,25 +81,24 @@ fn admitted_tail<F: Field>(divisor: &[F], places: usize) -> Option<&[F]>
 pub fn remainder<F: Field>(message: &[F], divisor: &[F], rest: &mut [F]) -> Result<(), Refusal>
     ensures { λ r. ⌜ Answered field mean (map mean (now (message .entry))) (now (divisor .entry)) r (now (rest .entry)) (now (rest .exit)) ⌝ }
 {
-    let Some(tail) = admitted_tail(divisor, rest.len()) else {
+    if !is_admitted(divisor, rest.len()) {
         return Err(Refusal::Shape);
-    };
-    clear(rest);
-    divide(message, tail, rest);
+    }
+    divide(message, divisor, rest);
     Ok(())
 }
 
-// Goes on with a division: `rest` holds the remainder of what came before, and then that of the message behind it too.
+// Goes on with a division: `rest` holds the remainder of what came before, and then of that with `more` behind it.
 pub fn continue_remainder<F: Field>(
-    message: &[F],
+    more: &[F],
     divisor: &[F],
     rest: &mut [F],
 ) -> Result<(), Refusal>
-    ensures { λ r. ⌜ Answered field mean (map mean (now (rest .entry)) ++ map mean (now (message .entry))) (now (divisor .entry)) r (now (rest .entry)) (now (rest .exit)) ⌝ }
+    ensures { λ r. ⌜ Answered field mean (map mean (now (rest .entry)) ++ map mean (now (more .entry))) (now (divisor .entry)) r (now (rest .entry)) (now (rest .exit)) ⌝ }
 {
-    let Some(tail) = admitted_tail(divisor, rest.len()) else {
+    if !is_admitted(divisor, rest.len()) {
         return Err(Refusal::Shape);
-    };
-    divide(message, tail, rest);
+    }
+    divide_behind(more, divisor, rest);
     Ok(())
 }

@@ -1,24 +1,15 @@
-use mathlib.Core.Path.{sym, _∙_}
-use mathlib.Core.List.{map}
-use native.Mathlib.Omega.{arith}
-use lib.ListN.{length-map}
-use Rattle.codes.proofs.LongDivision.{take-in, taken-in}
+use mathlib.Core.Path.{subst}
+use mathlib.Core.List.{map, _++_}
+use lib.ListN.{length}
+use Rattle.codes.specs.Division.{Remainder}
+use Rattle.codes.proofs.Answering.{alone}
 use Rattle.codes.proofs.division.divide.Needs as need
-
-pub loop-symbol-again : need.loop-symbol-again
-loop-symbol-again g c =
-    let F = g .F·Field in
-    let tail = c .args .tail .now in (
-      omega (arith, c .loop-symbol-test .taken),
-      take-in (g .F·Field·met .laws) (F .mean) (map (F .mean) tail) (c .args .message .now) (c .loop-symbol .rest) (c .step .last .rest)
-          (c .loop-symbol .symbol-index) (c .symbol-item .result) (c .loop-symbol-test .taken) (c .symbol-item .is)
-          (omega (arith, length-map tail (F .mean), c .loop-symbol .kept .rest, c .pre .0)) (omega (arith, length-map tail (F .mean), c .pre .1)) (c .step .ensures)
-          ∙ c .loop-symbol .inv .1,
-    )
 
 pub returns : need.returns
 returns g c =
     let F = g .F·Field in
-    sym (taken-in (g .F·Field·met .laws) (F .mean) (map (F .mean) (c .args .tail .now)) (c .args .message .now) (c .loop-symbol .rest)
-    (c .loop-symbol .symbol-index) (c .loop-symbol .inv .0) (c .loop-symbol-test .left))
-    ∙ c .loop-symbol .inv .1
+    let message = map (F .mean) (c .args .message .now) in
+    let divisor = map (F .mean) (c .args .divisor .now) in
+    let rest = map (F .mean) (c .divide-behind .last .rest) in
+    alone (g .F·Field·met .laws) (length (c .args .rest .now)) divisor (c .pre .shape) (length (c .args .rest .now)) message rest
+    (subst (λ cleared. Remainder (F .field) (cleared ++ message) divisor rest) (c .clear .ensures) (c .divide-behind .ensures))

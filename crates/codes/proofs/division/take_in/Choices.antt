@@ -3,7 +3,7 @@ use mathlib.Core.List.{map, _++_}
 use Prim.Native.Nat.{_-_, _≤_}
 use lib.ListN.{length, drop}
 use Rattle.codes.specs.Division.{divided}
-use Rattle.codes.proofs.division.divide.Given as given
+use Rattle.codes.proofs.division.take_in.Given as given
 
 -- what is left to divide comes to what was there at the start
 abbrev pub Inv-loop-symbol : given.InvT-loop-symbol
