@@ -4,5 +4,6 @@ pub mod Packing
 pub mod Reading
 pub mod Starts
 pub mod Opening
+pub mod Refusing
 pub mod Units
 pub mod Tiling

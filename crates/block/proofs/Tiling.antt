@@ -12,10 +12,12 @@ use borrow.Author.Tests.{ltb-false}
 use Rattle.std.proofs.shelf.Tests.{cases-eq}
 use Rattle.std.specs.declared.option.Option.{Option}
 use Rattle.std.specs.declared.option.Option.the-variants.{Some, None}
+use Rattle.std.specs.declared.result.Result.{Result}
 use Rattle.std.specs.Options.{isSome, valueOr}
 use Rattle.std.specs.Vec.{made}
 use Rattle.gf.specs.declared.refusal.Refusal.{Refusal}
 use Rattle.gf.specs.declared.refusal.Refusal.the-variants as refusals
+use Rattle.block.specs.declared.header.Header.{Header}
 use Rattle.block.specs.declared.parameters.Layout.{Layout}
 use Rattle.block.specs.Layouts.{parameters, right}
 use Rattle.block.specs.Headers.{starts, crowded, fire-fits, fills, unless, layout-of, written, crowded-of, header, Tiles}
@@ -57,7 +59,7 @@ module _ (size : ℕ) (block : List ℕ) where
       behind n h =
           subst (λ (k : ℕ). getD (starts l size (drop 3 block)) k 0 + 3 ≤ getD (starts l size (drop 3 block)) (n + 1) 0) (add-sub-cancel n 1) h
 
-  pub tiles : made (header size block) Tiles
+  tiles : made (header size block) Tiles
   tiles =
       by (not (leb 1 size && leb size 24)) (not (eqb (length block) (120 * size))) (not (fire-fits block)) (not (right (getD block 2 0)))
       (not (fills (layout-of block) (drop 3 block))) (crowded-of size block) refl
@@ -72,3 +74,6 @@ module _ (size : ℕ) (block : List ℕ) where
       by false false false false true found h = tt
       by false false false false false (Some n) h = tt
       by false false false false false None h = tiled h
+
+  pub tiled-answer : (answer : Result Header Refusal) → answer ≡ header size block → made answer Tiles
+  tiled-answer answer e = subst (λ r. made r Tiles) (sym e) tiles

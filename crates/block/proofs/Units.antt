@@ -1,32 +1,21 @@
 -- Whether a unit's check is right, test by test.
 use mathlib.Core.Path.{_≡_, refl, sym, ap, ap₂, _∙_}
-use mathlib.Core.Bool.{Bool, true, false, cond, not, _&&_}
+use mathlib.Core.Bool.{Bool, true, false, not, _&&_}
 use mathlib.Core.List.{List, [], _∷_}
-use Prim.Native.Nat.{ℕ, _+_, _-_, _*_, _≤_}
+use Prim.Native.Nat.{ℕ, _+_, _-_, _≤_}
 use native.Mathlib.Omega.{arith}
 use lib.Dec.{eqb, ltb, leb}
 use lib.ListN.{length, getD, take, drop}
 use borrow.Author.Tests.{le-leb, leb-true}
 use Rattle.std.specs.declared.result.Result.the-variants.{Ok, Err}
-use Rattle.gf.specs.declared.refusal.Refusal.{Refusal}
-use Rattle.gf.specs.declared.refusal.Refusal.the-variants.{Size, Buffer, Index}
+use Rattle.gf.specs.declared.refusal.Refusal.the-variants.{Index}
 use Rattle.block.specs.declared.header.Header.{Header}
 use Rattle.block.specs.declared.header.UnitPlace.{UnitPlace}
 use Rattle.block.specs.Bytes.{word}
 use Rattle.block.specs.Checks.{unit-check}
-use Rattle.block.specs.Headers.{unless, of-block, unit-count, there, unit-at, check-fits, good}
+use Rattle.block.specs.Headers.{unless, unit-count, there, unit-at, check-fits, good}
 use Rattle.block.specs.Stages.{blocked}
-
--- where the size and the buffer are right, the other conditions decide
-past-block : {A : Type 0} (size : ℕ) (block : List ℕ) (done : Unit {0}) → Ok done ≡ blocked size block
-    → (others : List (Bool × Refusal)) (value : A) → unless (of-block size block others) value ≡ unless others value
-past-block {A} size block done e others value = by (not (leb 1 size && leb size 24)) (not (eqb (length block) (120 * size))) e
-  where
-    by : (a b : Bool) → Ok done ≡ cond a (Err Size) (cond b (Err Buffer) (Ok tt))
-        → cond a (Err Size) (cond b (Err Buffer) (unless others value)) ≡ unless others value
-    by true b e = absurd (let z : _≡_ {A = ℕ} 0 1 = cc in omega arith)
-    by false true e = absurd (let z : _≡_ {A = ℕ} 0 1 = cc in omega arith)
-    by false false e = refl
+use Rattle.block.proofs.Refusing.{past-block}
 
 module _ (h : Header) (block : List ℕ) (n : ℕ) (done : Unit {0}) (e : Ok done ≡ blocked (h .size) block) where
   abbrev begin : ℕ

@@ -1,7 +1,7 @@
 -- The parameter byte, and the layout of a super frame that follows from it.
 use mathlib.Core.Bool.{Bool, true, false, cond, not, _&&_, _||_}
 use mathlib.Core.List.{List, [], _∷_}
-use Prim.Native.Nat.{ℕ}
+use Prim.Native.Nat.{ℕ, _+_, _*_}
 use lib.Dec.{eqb}
 use Rattle.std.specs.declared.result.Result.{Result}
 use Rattle.std.specs.declared.result.Result.the-variants.{Ok, Err}
@@ -15,7 +15,7 @@ use Rattle.block.specs.declared.parameters.ChannelMode.{ChannelMode}
 use Rattle.block.specs.declared.parameters.ChannelMode.the-variants.{Mono, Stereo}
 use Rattle.block.specs.declared.parameters.Parameters.{Parameters}
 use Rattle.block.specs.declared.parameters.Layout.{Layout}
-use Rattle.block.specs.Bytes.{bit, unsigned}
+use Rattle.block.specs.Bytes.{bit}
 
 -- the refusal that a header's fault is
 abbrev pub refused : HeaderFault → Refusal
@@ -43,7 +43,7 @@ parameters byte = record {
   sbr = flag byte 2;
   mode = channels (flag byte 3);
   ps = flag byte 4;
-  surround = unsigned (byte ∷ []) 5 3;
+  surround = bit (byte ∷ []) 5 * 4 + bit (byte ∷ []) 6 * 2 + bit (byte ∷ []) 7;
 }
 
 -- the reserved bit is 0, and ps goes only with sbr and mono

@@ -9,6 +9,8 @@ ghost use Rattle.codes.specs.Division.{admitted, divided, stepped, Remainder, 
 use gf::Field;
 use gf::Refusal;
 
+const MAX_DEGREE: usize = 16;
+
 // Takes the highest symbol off `rest`, and that multiple of the divisor with it; `symbol` comes in behind.
 // `tail` is the divisor without its leading one.
 fn step<F: Field>(tail: &[F], symbol: F, rest: &mut [F])
@@ -48,7 +50,7 @@ fn is_admitted<F: Field>(divisor: &[F], places: usize) -> bool
     ensures value { λ r. ⌜ r ≡ admitted field (map mean (now (divisor .entry))) places ⌝ }
     ensures sizes { λ r. ⌜ (r ≡ true → (1 ≤ places) × (length (now (divisor .entry)) ≡ places + 1)) ⌝ }
 {
-    if places < 1 || places > 16 {
+    if places < 1 || places > MAX_DEGREE {
         return false;
     }
     if divisor.len() != places + 1 {

@@ -1,12 +1,26 @@
-use mathlib.Core.Path.{_≡_, subst, sym}
-use borrow.Author.Needs.{needs}
-use Rattle.std.specs.Vec.{made}
-use Rattle.std.specs.declared.result.Result.the-variants.{Ok}
-use Rattle.block.specs.Headers.{header, Tiles}
-use Rattle.block.proofs.Tiling.{tiles}
+use mathlib.Core.Path.{_≡_, sym, ap, _∙_}
+use Rattle.std.proofs.shelf.Results.{err-from-errBy}
+use Rattle.std.specs.declared.result.Result.the-variants.{Ok, Err}
+use Rattle.block.specs.Headers.{header}
+use Rattle.block.proofs.Refusing.{converted, opened-header}
+use Rattle.block.proofs.Tiling.{tiled-answer}
 use Rattle.block.proofs.header.read_header.Needs as need
+
+pub returns-in-Break-open : need.returns-in-Break-open
+returns-in-Break-open c =
+    let size = c .args .size in
+    let block = c .args .block .now in
+    let p = err-from-errBy (c .from-residual-in-Break-open .result) (c .from-residual-in-Break-open .ensures .1) in
+    let value : c .from-residual-in-Break-open .result ≡ header size block =
+    p .1 ∙ ap Err (p .2) ∙ ap converted (sym (c .in-Break-open .was tt) ∙ c .open .ensures)
+    ∙ opened-header size block (c .in-Continue-check-block .field-0) (sym (c .in-Continue-check-block .was tt) ∙ c .check-block .ensures) in
+    record { value = value; tiles = tiled-answer size block (c .from-residual-in-Break-open .result) value }
 
 pub returns : need.returns
 returns c =
-    let value : Ok (c .in-Continue-open .field-0) ≡ header (c .args .size) (c .args .block .now) = search needs in
-    record { value = value; tiles = subst (λ r. made r Tiles) (sym value) (tiles (c .args .size) (c .args .block .now)) }
+    let size = c .args .size in
+    let block = c .args .block .now in
+    let value : Ok (c .in-Continue-open .field-0) ≡ header size block =
+    ap converted (sym (c .in-Continue-open .was tt) ∙ c .open .ensures)
+    ∙ opened-header size block (c .in-Continue-check-block .field-0) (sym (c .in-Continue-check-block .was tt) ∙ c .check-block .ensures) in
+    record { value = value; tiles = tiled-answer size block (Ok (c .in-Continue-open .field-0)) value }

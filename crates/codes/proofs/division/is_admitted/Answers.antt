@@ -29,6 +29,6 @@ returns g c =
     let divisor = c .args .divisor .now in
     let lead = read f (F .mean) divisor 0 (c .index-divisor-0 .result) (omega (arith, c .if-divisor-places .left)) (c .index-divisor-0 .is) in record {
       value = c .same .ensures ∙ ap₂ (f .equal) lead (c .one .ensures)
-          ∙ admitted-by-lead f (c .args .places) (map (F .mean) divisor) (c .if-places-lt1 .left) (c .if-places-gt16 .left) (length-map divisor (F .mean) ∙ c .if-divisor-places .left);
+          ∙ admitted-by-lead f (c .args .places) (map (F .mean) divisor) (c .if-places-lt1 .left) (c .if-places-gt-MAX-DEGREE .left) (length-map divisor (F .mean) ∙ c .if-divisor-places .left);
       sizes = λ e. (c .if-places-lt1 .left, c .if-divisor-places .left);
     }
