@@ -5,6 +5,7 @@ use block::RefusalFromHeaderFault;
 use block::fire_word;
 use block::read_header;
 use block::unit_check;
+use codes::remainder;
 use gf::Field;
 use gf::Gf16;
 use gf::Gf16Field;
@@ -19,6 +20,27 @@ fn print_products(rt: &LibcRuntime) -> Result<(), AnyError> {
     println!(rt, "Gf256: 80 times 2 is {byte:02X}")?;
     let nibble = Gf16(8).mul(Gf16(2)).0;
     println!(rt, "Gf16: 8 times 2 is {nibble:X}")?;
+    Ok(())
+}
+
+// Divides x^2 by a polynomial of degree 2 over the field of 16 elements.
+fn print_remainder(rt: &LibcRuntime, divisor: &[Gf16; 3]) -> Result<(), AnyError> {
+    let message = [Gf16(1), Gf16(0), Gf16(0)];
+    let mut rest = [Gf16(0); 2];
+    let lead = divisor[0].0;
+    let middle = divisor[1].0;
+    let last = divisor[2].0;
+    match remainder(&message, divisor, &mut rest) {
+        Ok(()) => {
+            let high = rest[0].0;
+            let low = rest[1].0;
+            println!(
+                rt,
+                "Gf16: 1 0 0 by {lead} {middle} {last} leaves {high} {low}"
+            )?;
+        }
+        Err(refusal) => println!(rt, "Gf16: 1 0 0 by {lead} {middle} {last}: {refusal}")?,
+    }
     Ok(())
 }
 
@@ -60,6 +82,8 @@ fn print_zero_block(rt: &LibcRuntime) -> Result<(), AnyError> {
 
 pub fn print_all(rt: &LibcRuntime) -> Result<(), AnyError> {
     print_products(rt)?;
+    print_remainder(rt, &[Gf16(1), Gf16(3), Gf16(2)])?;
+    print_remainder(rt, &[Gf16(2), Gf16(3), Gf16(2)])?;
     print_checks(rt)?;
     print_parameters(rt, 0x68)?;
     print_parameters(rt, 0x78)?;
