@@ -1,6 +1,6 @@
 -- Bytes as polynomials, and what the register of a division over bits holds.
 use mathlib.Core.Path.{_≡_, refl, sym, ap, ap₂, subst, _∙_}
-use mathlib.Core.Bool.{Bool, true}
+use mathlib.Core.Bool.{true}
 use mathlib.Core.List.{List, [], _∷_, _++_, append-assoc, append-nil}
 use Prim.Native.Nat.{ℕ, zero, suc, _+_, _*_, _≤_}
 use native.Mathlib.Nat.{add-zero, mul-suc}
@@ -9,7 +9,7 @@ use lib.ListN.{length, getD, take, drop, length-append, length-replicate, take-a
 use Rattle.gf.specs.Bits.{Bits}
 use Rattle.gf.specs.Fields.{gf2}
 use Rattle.gf.proofs.Fields.{laws2}
-use Rattle.codes.specs.Polynomials.{zeros, over, plus}
+use Rattle.codes.specs.Polynomials.{zeros, over}
 use Rattle.codes.specs.Division.{remainder-of, admitted}
 use Rattle.codes.proofs.Lists.{cons, length-over, over-comm, over-zeros}
 use Rattle.codes.proofs.LongDivision.{remainder-short}

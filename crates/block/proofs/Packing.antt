@@ -1,16 +1,16 @@
 -- The number that bits write: its bound, one bit more, and the complement.
 use mathlib.Core.Path.{_≡_, refl, sym, ap, ap₂, subst, _∙_}
-use mathlib.Core.Bool.{Bool, true, false}
+use mathlib.Core.Bool.{true, false}
 use mathlib.Core.List.{List, [], _∷_, _++_, map}
-use Prim.Native.Nat.{ℕ, zero, suc, _+_, _-_, _*_, _%_, _^_, _<_, _≤_}
-use native.Mathlib.Nat.{add-suc, add-zero, pow-suc, mul-one, mul-assoc}
+use Prim.Native.Nat.{ℕ, suc, _+_, _-_, _*_, _%_, _^_, _<_, _≤_}
+use native.Mathlib.Nat.{add-zero, pow-suc, mul-one, mul-assoc}
 use native.Mathlib.Omega.{arith}
 use lib.Dec.{lit<}
 use lib.ListN.{length, getD, take, length-map, length-take}
 use lib.Pow.{pow-mono}
 use Rattle.std.proofs.shelf.Lists.{take-more, map-append}
 use Rattle.gf.specs.declared.gf2.Gf2.{Gf2}
-use Rattle.gf.specs.Bits.{Bits, bits, zeros, number, plus, differ}
+use Rattle.gf.specs.Bits.{Bits, bits, number, plus}
 use Rattle.gf.specs.Fields.{gf2}
 use Rattle.gf.proofs.Numbers.{number-lt, number-bits}
 use Rattle.block.specs.Checks.{binary, meanings}

@@ -1,5 +1,5 @@
 -- Numbers in a run of bytes: within a byte, and across two.
-use mathlib.Core.Path.{_≡_, refl, sym, ap, ap₂, subst, _∙_}
+use mathlib.Core.Path.{_≡_, sym, ap, ap₂, _∙_}
 use mathlib.Core.List.{List}
 use Prim.Native.Nat.{ℕ, zero, suc, _+_, _-_, _*_, _/_, _%_, _^_, _<_, _≤_}
 use native.Mathlib.Nat.{mod-one, pow-suc, pow-zero, add-zero, add-suc, add-assoc, mul-assoc, div-one, div-div-eq-div-mul}

@@ -5,7 +5,7 @@ use mathlib.Core.List.{List, [], _∷_, map}
 use mathlib.Core.Logic.{⊎-elim}
 use Prim.Native.Nat.{ℕ, zero, suc, _+_, _-_, _*_, _%_, _<_, _≤_}
 use native.Mathlib.Omega.{arith}
-use lib.Dec.{eqb, ltb}
+use lib.Dec.{eqb}
 use lib.ListN.{length, getD, set, length-set}
 use lib.Seq.{ext-getD, getD-set-same, getD-set-other}
 use borrow.Author.Tests.{lt-ltb, le-ltb, eq-eqb, ne-eqb, clash}
@@ -122,9 +122,6 @@ module _ (places : List ℕ) (n : ℕ) where
   crowded-skip (suc count) h k =
       ap (λ b. cond b (Some n) (crowded places (suc n) count)) (le-ltb (getD places n 0) (getD places (n - 1) 0 + 3) k)
       ∙ ap₂ (crowded places) (omega arith) (omega arith)
-
-  pub crowded-none : (count : ℕ) → count ≡ 0 → None ≡ crowded places n count
-  crowded-none count e = sym (ap (crowded places n) e)
 
 -- the alignment bits
 pub fills-where : (l : Layout) (packed : List ℕ) → Fits l → l .aligned ≡ true

@@ -7,7 +7,7 @@ use native.Mathlib.Omega.{arith}
 use lib.Dec.{eqb, ltb, leb}
 use lib.ListN.{length, getD, take, drop}
 use borrow.Author.Tests.{le-leb, leb-true}
-use Rattle.std.specs.declared.result.Result.the-variants.{Ok, Err}
+use Rattle.std.specs.declared.result.Result.the-variants.{Ok}
 use Rattle.gf.specs.declared.refusal.Refusal.the-variants.{Index}
 use Rattle.block.specs.declared.header.Header.{Header}
 use Rattle.block.specs.declared.header.UnitPlace.{UnitPlace}

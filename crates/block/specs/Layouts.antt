@@ -1,6 +1,6 @@
 -- The parameter byte, and the layout of a super frame that follows from it.
 use mathlib.Core.Bool.{Bool, true, false, cond, not, _&&_, _||_}
-use mathlib.Core.List.{List, [], _∷_}
+use mathlib.Core.List.{[], _∷_}
 use Prim.Native.Nat.{ℕ, _+_, _*_}
 use lib.Dec.{eqb}
 use Rattle.std.specs.declared.result.Result.{Result}

@@ -1,24 +1,19 @@
 -- What the steps of reading a header answer, one by one. The promises of the public calls are in Headers.antt, and equal to these.
 use mathlib.Core.Path.{_≡_}
-use mathlib.Core.Bool.{Bool, true, cond}
+use mathlib.Core.Bool.{true, cond}
 use mathlib.Core.List.{List, []}
 use Prim.Native.Nat.{ℕ, _+_, _-_, _*_, _≤_}
-use lib.Dec.{eqb, leb}
-use lib.ListN.{length, getD, take, drop}
+use lib.ListN.{getD, drop}
 use Rattle.std.specs.declared.option.Option.{Option}
 use Rattle.std.specs.declared.option.Option.the-variants.{Some, None}
 use Rattle.std.specs.declared.result.Result.{Result}
 use Rattle.std.specs.declared.result.Result.the-variants.{Ok, Err}
 use Rattle.gf.specs.declared.refusal.Refusal.{Refusal}
-use Rattle.gf.specs.declared.refusal.Refusal.the-variants.{Index}
 use Rattle.block.specs.declared.fault.HeaderFault.{HeaderFault}
 use Rattle.block.specs.declared.fault.HeaderFault.the-variants as faults
 use Rattle.block.specs.declared.parameters.Parameters.{Parameters}
 use Rattle.block.specs.declared.parameters.Layout.{Layout}
 use Rattle.block.specs.declared.header.Header.{Header}
-use Rattle.block.specs.declared.header.UnitPlace.{UnitPlace}
-use Rattle.block.specs.Bytes.{word}
-use Rattle.block.specs.Checks.{unit-check}
 use Rattle.block.specs.Layouts.{layout, read}
 use Rattle.block.specs.Headers.{starts, crowded, fire-fits, fills, unless, of-block}
 

@@ -1,7 +1,7 @@
 -- A division whose register has the message added in front: the register holds the remainder of the message times x ^ degree.
 use mathlib.Core.Path.{_≡_, refl, sym, ap, ap₂, _∙_}
 use mathlib.Core.List.{List, [], _∷_, _++_, append-assoc}
-use Prim.Native.Nat.{ℕ, zero, suc, _+_, _-_, _≤_}
+use Prim.Native.Nat.{ℕ, zero, _+_, _-_, _≤_}
 use native.Mathlib.Nat.{add-comm}
 use native.Mathlib.Omega.{arith}
 use lib.ListN.{length, length-append, length-replicate, replicate-append-replicate}
@@ -53,9 +53,6 @@ module _ {E : Type 0} {f : Operations E} (l : Laws f) where
         length-over f (message ++ zeros f n) (start ++ zeros f (length message))
         (omega (arith, sized, length-before message n, length-before start (length message)))
         ∙ length-before start (length message) ∙ omega arith
-
-    longer : (zeros f (n + length more)) ≡ zeros f n ++ zeros f (length more)
-    longer = sym (zeros-add n (length more))
 
     message-part : over f ((message ++ zeros f n) ++ zeros f (length more)) (zeros f (length message) ++ (more ++ zeros f n))
         ≡ (message ++ more) ++ zeros f n

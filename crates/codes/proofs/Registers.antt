@@ -5,7 +5,7 @@ use Prim.Native.Nat.{ℕ, zero, suc, _+_, _<_, _≤_}
 use native.Mathlib.Numerals.{add-one}
 use native.Mathlib.Omega.{arith}
 use lib.ListN.{length, getD, set, take, drop, length-append, length-map}
-use lib.Seq.{length-take-le, take-all, take-suc, drop-cons, append-snoc, set-at, getD-append-add, getD-drop, getD-at, getD-append-seam}
+use lib.Seq.{length-take-le, take-all, take-suc, drop-cons, append-snoc, set-at, getD-append-add, getD-drop, getD-at}
 use Rattle.std.proofs.shelf.Lists.{getD-map, getD-append-left, drop-all}
 use Rattle.gf.specs.Theory.{Operations}
 use Rattle.codes.specs.Polynomials.{scale, negs, over}

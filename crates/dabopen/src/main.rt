@@ -54,7 +54,8 @@ fn run(rt: &LibcRuntime) -> Result<(), Failure> {
         return Err(Failure::Usage);
     };
     let file_word = words.next();
-    if words.next().is_some() || size_word.as_str() == "--help" {
+    let help = size_word.as_str() == "--help" || size_word.as_str() == "-h";
+    if help || words.next().is_some() {
         return Err(Failure::Usage);
     }
     let Some(size) = parse_size(size_word.as_str()) else {

@@ -1,9 +1,8 @@
 -- Numbers read as rows of bits: what xor, and, a remainder by 2 ^ k and a test for equality do to the bits.
 use mathlib.Core.Path.{_≡_, refl, sym, ap, ap₂, subst, _∙_}
-use mathlib.Core.Bool.{Bool, true, false, not, cond, _&&_}
-use Prim.Native.Nat.{ℕ, zero, suc, _+_, _*_, _/_, _%_, _^_, _<_, _≤_, min}
+use mathlib.Core.Bool.{Bool, true, false, cond, _&&_}
+use Prim.Native.Nat.{ℕ, zero, suc, _+_, _*_, _/_, _%_, _^_, _<_, min}
 use native.Mathlib.Nat.{mod-lt, mod-eq-of-lt, pow-suc, mod-one, not-suc-le-zero, le-of-suc-le-suc}
-use native.Mathlib.Omega.{arith}
 use lib.Arith.{digits-div, digits-mod, digits-lt, mod-mul}
 use lib.Bits.{bitXor, bitAnd, xor-step, and-step, differ as differs}
 use lib.Dec.{T, eqb, eqb→eq, eqb-refl, lit<}

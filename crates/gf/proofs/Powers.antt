@@ -1,6 +1,6 @@
 -- The rows of k bits are a field where the powers of x go through all of them but zero, which the tables show.
 use mathlib.Core.Path.{_≡_, refl, sym, ap, ap₂, subst, _∙_}
-use mathlib.Core.Bool.{Bool, true, not, _&&_}
+use mathlib.Core.Bool.{true}
 use mathlib.Core.List.{List, [], _∷_}
 use Prim.Native.Nat.{ℕ, zero, suc, _+_, _*_, _^_, _<_, _≤_}
 use native.Mathlib.Nat.{add-suc, add-zero, add-comm, suc-add, zero-add, mul-suc, mul-zero, mul-comm, mul-assoc, le-of-suc-le-suc, not-suc-le-zero}
@@ -9,9 +9,9 @@ use lib.Dec.{T, T-not, eqb, ltb, eqb→eq, ltb→lt}
 use lib.Pow.{pow-pos}
 use lib.ListN.{getD}
 use Rattle.gf.specs.Theory.{Laws, power}
-use Rattle.gf.specs.Bits.{Bits, bits, number, zeros, plus, equal, times-x, times}
+use Rattle.gf.specs.Bits.{Bits, bits, number, zeros, equal, times-x, times}
 use Rattle.gf.specs.Fields.{operations}
-use Rattle.gf.proofs.Tests.{T-true, and-left, and-right, below, below-at}
+use Rattle.gf.proofs.Tests.{T-true, and-left, and-right, below-at}
 use Rattle.gf.proofs.Numbers.{bits-number, number-lt}
 use Rattle.gf.proofs.Computed.{walk, entry, turned, Tables, Sound}
 use Rattle.gf.proofs.Ring.{plus-assoc, plus-comm, plus-zeros, plus-self, equal-yes, equal-no, times-plus, times-zeros, times-times-x, times-comm, times-assoc}

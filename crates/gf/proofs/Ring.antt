@@ -1,11 +1,9 @@
 -- Rows of k bits form a ring, for each k and each value of the k-th power of x.
 use mathlib.Core.Path.{_≡_, refl, sym, ap, ap₂, _∙_}
-use mathlib.Core.Bool.{Bool, true, false, not, cond, _&&_}
-use Prim.Native.Nat.{ℕ, zero, suc, _+_, _*_, _/_, _%_, _^_, _<_}
-use native.Mathlib.Nat.{add-suc, add-zero, suc-add, zero-add, pow-suc}
-use native.Mathlib.Omega.{arith}
-use lib.Dec.{T, eqb}
-use Rattle.gf.specs.Bits.{Bits, differ, bits, number, zeros, plus, equal, only, shift, out, times-x, times-row, times}
+use mathlib.Core.Bool.{Bool, true, false, not, _&&_}
+use Prim.Native.Nat.{ℕ, zero, suc}
+use lib.Dec.{T}
+use Rattle.gf.specs.Bits.{Bits, differ, zeros, plus, equal, only, shift, out, times-x, times-row, times}
 
 differ-assoc : (a b c : Bool) → differ (differ a b) c ≡ differ a (differ b c)
 differ-assoc true true true = refl

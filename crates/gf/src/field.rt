@@ -13,6 +13,7 @@ pub trait Field: Copy {
     // The element that a stored symbol means.
     ghost mean: { Self → Element };
 
+    // They keep all laws of a field.
     law laws: { Laws field };
 
     fn zero() -> Self

@@ -1,5 +1,4 @@
 use mathlib.Core.Path.{sym, ap, ap₂, _∙_}
-use Prim.Native.Nat.{_≤_}
 use mathlib.Core.Path.{_≡_}
 use native.Mathlib.Omega.{arith}
 use lib.ListN.{length, getD, set, length-map, length-set}
@@ -10,8 +9,6 @@ use Rattle.gf.specs.Fields.{gf2}
 use Rattle.gf.specs.declared.gf2.Gf2.{Gf2}
 use Rattle.codes.specs.Polynomials.{over}
 use Rattle.codes.proofs.Registers.{advance, getD-over}
-use Rattle.gf.proofs.Fields.{laws2}
-use Rattle.codes.proofs.Lists.{length-over, over-comm}
 use Rattle.block.specs.Checks.{byte-bits, meanings}
 use Rattle.block.proofs.Dividing.{ahead-here, sum-written, length-byte, length-sum}
 use Rattle.block.proofs.checks.add_byte.Needs as need

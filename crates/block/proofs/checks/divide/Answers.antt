@@ -1,8 +1,6 @@
-use mathlib.Core.Path.{_≡_, refl, sym, ap, _∙_}
-use mathlib.Core.List.{_∷_, [], _++_}
-use Prim.Native.Nat.{zero-le}
+use mathlib.Core.Path.{refl, sym, ap, _∙_}
 use native.Mathlib.Omega.{arith}
-use lib.ListN.{length, getD, take, replicate, length-replicate}
+use lib.ListN.{getD, take, replicate}
 use lib.Seq.{take-all}
 use Rattle.std.proofs.shelf.Lists.{take-more}
 use Rattle.gf.specs.Bits.{bits}

@@ -1,8 +1,5 @@
-use mathlib.Core.Path.{_≡_, sym, ap, ap₂, _∙_}
-use mathlib.Core.List.{map, _∷_, [], _++_}
-use Prim.Native.Nat.{_+_, _*_, _%_, _<_}
+use mathlib.Core.Path.{ap, _∙_}
 use native.Mathlib.Omega.{arith}
-use lib.ListN.{take, getD}
 use lib.Seq.{take-all}
 use Rattle.block.specs.Checks.{binary, meanings}
 use Rattle.block.proofs.Packing.{word-fits, symbol-more}

@@ -1,6 +1,6 @@
 use mathlib.Core.Path.{_≡_}
 use Prim.Native.Nat.{_≤_}
-use lib.ListN.{take, length}
+use lib.ListN.{take}
 use Rattle.block.specs.Checks.{binary, meanings}
 use Rattle.block.proofs.checks.packed.Given as given
 

@@ -1,7 +1,6 @@
-use mathlib.Core.Path.{_≡_, sym, ap, ap₂, _∙_}
+use mathlib.Core.Path.{ap, ap₂, _∙_}
 use mathlib.Core.List.{_++_}
-use Prim.Native.Nat.{ℕ}
-use lib.ListN.{length, replicate}
+use lib.ListN.{replicate}
 use Rattle.gf.specs.Bits.{bits}
 use Rattle.gf.specs.Fields.{gf2}
 use Rattle.gf.specs.declared.gf2.Gf2.{Gf2}

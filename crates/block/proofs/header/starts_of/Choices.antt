@@ -1,4 +1,3 @@
-use Prim.Native.Nat.{_≤_}
 use Rattle.block.proofs.Starts.{Written}
 use Rattle.block.proofs.header.starts_of.Given as given
 

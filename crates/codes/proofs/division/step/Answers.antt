@@ -1,8 +1,8 @@
 use mathlib.Core.Path.{_≡_, refl, sym, ap, ap₂, _∙_}
-use mathlib.Core.List.{map, _++_}
+use mathlib.Core.List.{map}
 use Prim.Native.Nat.{ℕ, _-_, _+_, _<_}
 use native.Mathlib.Omega.{arith}
-use lib.ListN.{length, getD, set, take, drop, length-map}
+use lib.ListN.{length, getD, set, length-map}
 use lib.Seq.{map-set}
 use Rattle.codes.specs.Division.{stepped}
 use Rattle.codes.proofs.Registers.{advance, ahead, length-stepped, stepped-at, stepped-last, read, whole}

@@ -3,7 +3,7 @@ use Prim.Native.Nat.{_%_}
 use native.Mathlib.Omega.{arith}
 use Rattle.gf.specs.Bits.{bits}
 use Rattle.gf.specs.Fields.{low256}
-use Rattle.gf.proofs.Computed.{root-products, root-products-at}
+use Rattle.gf.proofs.Computed.{root-products-at}
 use Rattle.gf.proofs.Powers.{root-product}
 use Rattle.gf.proofs.Fields.{tables256, sound256, root-products256}
 use Rattle.gf.proofs.gf256.Gf256Field.times_root_power.Needs as need
