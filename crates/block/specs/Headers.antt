@@ -21,7 +21,7 @@ use Rattle.block.specs.Checks.{fire-word, unit-check}
 use Rattle.block.specs.Layouts.{layout, parameters, right}
 
 -- start n: the first unit begins behind the header, the next ones where the 12-bit numbers say that are packed behind the parameters,
--- and the last unit ends with the super frame's 110 bytes for each subchannel unit
+-- and the last unit ends where the super frame does, after 110 bytes times the size
 abbrev pub start : Layout → ℕ → List ℕ → ℕ → ℕ
 start l size packed n =
     cond (eqb n 0) (l .«header_length»)
@@ -49,7 +49,7 @@ abbrev pub unless : {A : Type 0} → List (Bool × Refusal) → A → Result A R
 unless [] value = Ok value
 unless (c ∷ cs) value = cond (c .0) (Err (c .1)) (unless cs value)
 
--- the subchannel index is 1 to 24, and the buffer has 120 bytes for each subchannel unit
+-- the refusals of every call on a block: the size is not 1 to 24, or the buffer has not 120 bytes times the size; then others
 abbrev pub of-block : ℕ → List ℕ → List (Bool × Refusal) → List (Bool × Refusal)
 of-block size block others =
     (not (leb 1 size && leb size 24), Size) ∷ (not (eqb (length block) (120 * size)), Buffer) ∷ others

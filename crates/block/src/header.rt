@@ -142,7 +142,7 @@ fn check_block(size: usize, block: &[u8]) -> Result<(), Refusal>
     Ok(())
 }
 
-// Reads the header of a block of the size, 120 bytes for each subchannel unit.
+// Reads the header of a block; the size is the subchannel index, and the block has 120 times as many bytes.
 pub fn read_header(size: usize, block: &[u8]) -> Result<Header, Refusal>
     ensures value { λ r. ⌜ r ≡ header size (now (block .entry)) ⌝ }
     ensures tiles { λ r. ⌜ made r Tiles ⌝ }

@@ -9,7 +9,7 @@ use std::fmt;
 pub enum Refusal {
     // The subchannel index is not 1 to 24.
     Size,
-    // The block buffer has not 120 bytes, or the queue buffer not 768, for each subchannel unit.
+    // The block buffer has not 120 bytes times the subchannel index, or the queue buffer not 768.
     Buffer,
     // A value of the settings is out of range, or ps goes without sbr or with stereo.
     Settings,
