@@ -3,6 +3,7 @@ ghost use mathlib.Core.Path.{_≡_};
 ghost use Prim.Native.Nat.{_+_, _*_, _<_, _≤_};
 ghost use lib.ListN.{length};
 ghost use Rattle.std.specs.Vec.{made};
+ghost use Rattle.std.specs.declared.result.Result.the-variants.{Ok};
 ghost use Rattle.block.specs.Bytes.{unsigned};
 ghost use Rattle.block.specs.Headers.{starts as expected, crowded, fills, header, unit-at, good, Tiles};
 ghost use Rattle.block.specs.Stages.{Fits, spaced, opened, blocked};
@@ -142,13 +143,23 @@ fn check_block(size: usize, block: &[u8]) -> Result<(), Refusal>
     Ok(())
 }
 
+// Reads the header of a block whose size and length are right.
+fn read_admitted(size: usize, block: &[u8]) -> Result<Header, Refusal>
+    requires admitted { ⌜ Ok tt ≡ blocked size (now block) ⌝ }
+    requires sizes { ⌜ 1 ≤ size ⌝ ∗ ⌜ size ≤ 24 ⌝ ∗ ⌜ length (now block) ≡ 120 * size ⌝ }
+    ensures value { λ r. ⌜ r ≡ header size (now (block .entry)) ⌝ }
+    ensures tiles { λ r. ⌜ made r Tiles ⌝ }
+{
+    Ok(open(size, block)?)
+}
+
 // Reads the header of a block; the size is the subchannel index, and the block has 120 times as many bytes.
 pub fn read_header(size: usize, block: &[u8]) -> Result<Header, Refusal>
     ensures value { λ r. ⌜ r ≡ header size (now (block .entry)) ⌝ }
     ensures tiles { λ r. ⌜ made r Tiles ⌝ }
 {
     check_block(size, block)?;
-    Ok(open(size, block)?)
+    read_admitted(size, block)
 }
 
 impl Header {
