@@ -1,4 +1,6 @@
 // The block of a super frame: its check words and its header.
+#![tactic(auto)]
+
 mod checks;
 mod fault;
 mod header;

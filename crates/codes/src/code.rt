@@ -20,8 +20,8 @@ pub const WORK_SYMBOLS: usize = 512;
 
 // Whether the code has words of so many symbols with so many checks.
 fn has_shape<F: Field>(symbols: usize, checks: usize) -> bool
-    ensures value { result ≡ code_shape field symbols checks }
-    ensures sizes { result ≡ true → (1 ≤ checks) × (checks ≤ 16) × (checks < symbols) × (symbols ≤ field.reach) }
+    ensures value { result ≡ code_shape F.field symbols checks }
+    ensures sizes { result ≡ true → (1 ≤ checks) × (checks ≤ 16) × (checks < symbols) × (symbols ≤ F.field.reach) }
 {
     1 <= checks
         && checks <= MAX_CHECKS
@@ -32,7 +32,7 @@ fn has_shape<F: Field>(symbols: usize, checks: usize) -> bool
 
 // Whether the work buffer has its length and is all zeros.
 fn is_work<F: Field>(work: &[F]) -> bool
-    ensures value { result ≡ work_shape field (map mean work.now) }
+    ensures value { result ≡ work_shape F.field (map F.mean work.now) }
     ensures size { result ≡ true → length work.now ≡ 512 }
 {
     work.len() == WORK_SYMBOLS && are_zero(work)
@@ -40,9 +40,9 @@ fn is_work<F: Field>(work: &[F]) -> bool
 
 // Whether the code admits the word with so many checks, and the work buffer.
 fn is_admitted<F: Field>(word: &[F], checks: usize, work: &[F]) -> bool
-    ensures value { result ≡ (code_shape field (length word.now) checks && work_shape field (map mean work.now)) }
+    ensures value { result ≡ (code_shape F.field (length word.now) checks && work_shape F.field (map F.mean work.now)) }
     ensures checks { result ≡ true → (1 ≤ checks) × (checks ≤ 16) }
-    ensures word { result ≡ true → (checks < length word.now) × (length word.now ≤ field.reach) }
+    ensures word { result ≡ true → (checks < length word.now) × (length word.now ≤ F.field.reach) }
     ensures work { result ≡ true → length work.now ≡ 512 }
 {
     has_shape::<F>(word.len(), checks) && is_work(work)
@@ -51,7 +51,7 @@ fn is_admitted<F: Field>(word: &[F], checks: usize, work: &[F]) -> bool
 // Writes zero all over the work buffer.
 fn clear_work<F: Field>(work: &mut [F])
     requires { length work.old ≡ 512 }
-    ensures { map mean work.new ≡ zeros field 512 }
+    ensures { map F.mean work.new ≡ zeros F.field 512 }
 {
     clear(work);
 }
@@ -59,7 +59,7 @@ fn clear_work<F: Field>(work: &mut [F])
 // Writes the negatives of the symbols over as many places.
 fn write_negatives<F: Field>(symbols: &[F], places: &mut [F])
     requires { length places.old ≡ length symbols.now }
-    ensures { map mean places.new ≡ negs field (map mean symbols.now) }
+    ensures { map F.mean places.new ≡ negs F.field (map F.mean symbols.now) }
 {
     for j in 0..symbols.len() {
         places[j] = symbols[j].neg();
@@ -69,9 +69,9 @@ fn write_negatives<F: Field>(symbols: &[F], places: &mut [F])
 // Fills the checks of a word of an admitted shape.
 fn fill_checks<F: Field>(word: &mut [F], checks: usize, work: &mut [F])
     requires checks { (1 ≤ checks) × (checks ≤ 16) }
-    requires word { (checks < length word.old) × (length word.old ≤ field.reach) }
+    requires word { (checks < length word.old) × (length word.old ≤ F.field.reach) }
     requires work { length work.old ≡ 512 }
-    ensures { Filled field mean checks word.old word.new }
+    ensures { Filled F.field F.mean checks word.old word.new }
 {
     let (generator, rest) = work.split_at_mut(MAX_CHECKS + 1);
     let generator = &mut generator[..checks + 1];
@@ -86,9 +86,9 @@ fn fill_checks<F: Field>(word: &mut [F], checks: usize, work: &mut [F])
 // Corrects a word of an admitted shape. A codeword is known by its syndromes alone.
 fn correct_word<F: Field>(word: &mut [F], checks: usize, work: &mut [F]) -> Result<usize, Refusal>
     requires checks { (1 ≤ checks) × (checks ≤ 16) }
-    requires word { (checks < length word.old) × (length word.old ≤ field.reach) }
+    requires word { (checks < length word.old) × (length word.old ≤ F.field.reach) }
     requires work { length work.old ≡ 512 }
-    ensures { Outcome field mean checks word.old word.new result }
+    ensures { Outcome F.field F.mean checks word.old word.new result }
 {
     let (syndromes, rest) = work.split_at_mut(MAX_CHECKS);
     let syndromes = &mut syndromes[..checks];
@@ -101,7 +101,7 @@ fn correct_word<F: Field>(word: &mut [F], checks: usize, work: &mut [F]) -> Resu
 
 // Writes the last symbols, as many as there are checks, so that the word is a codeword. The others stay as they are.
 pub fn encode<F: Field>(word: &mut [F], checks: usize, work: &mut [F]) -> Result<(), Refusal>
-    ensures { Encoded field mean checks word.old word.new work.old work.new result }
+    ensures { Encoded F.field F.mean checks word.old word.new work.old work.new result }
 {
     if !is_admitted(word, checks, work) {
         return Err(Refusal::Shape);
@@ -114,10 +114,10 @@ pub fn encode<F: Field>(word: &mut [F], checks: usize, work: &mut [F]) -> Result
 // Makes the word the codeword that differs from it in at most half as many places as there are checks, and returns how many differ.
 // A word with no such codeword is refused and stays as it is.
 pub fn correct<F: Field>(word: &mut [F], checks: usize, work: &mut [F]) -> Result<usize, Refusal>
-    ensures answer { Correction field mean checks word.old word.new work.old work.new result }
-    ensures vandermonde { Vandermonde field }
-    ensures syndromes { SyndromesDecide field }
-    ensures distance { MinimumDistance field }
+    ensures answer { Correction F.field F.mean checks word.old word.new work.old work.new result }
+    ensures vandermonde { Vandermonde F.field }
+    ensures syndromes { SyndromesDecide F.field }
+    ensures distance { MinimumDistance F.field }
 {
     if !is_admitted(word, checks, work) {
         return Err(Refusal::Shape);

@@ -11,7 +11,7 @@ const MAX_DEGREE: usize = 16;
 // `tail` is the divisor without its leading one.
 fn step<F: Field>(tail: &[F], symbol: F, rest: &mut [F])
     requires { (length rest.old ≡ length tail.now) × (0 < length tail.now) }
-    ensures { map mean rest.new ≡ stepped field (map mean tail.now) (map mean rest.old) (mean symbol) }
+    ensures { map F.mean rest.new ≡ stepped F.field (map F.mean tail.now) (map F.mean rest.old) (F.mean symbol) }
 {
     let highest = rest[0];
     let last = rest.len() - 1;
@@ -24,7 +24,7 @@ fn step<F: Field>(tail: &[F], symbol: F, rest: &mut [F])
 // Takes the message in, symbol by symbol.
 fn take_in<F: Field>(message: &[F], tail: &[F], rest: &mut [F])
     requires { (length rest.old ≡ length tail.now) × (0 < length tail.now) }
-    ensures { map mean rest.new ≡ divided field (map mean tail.now) (length message.now) (map mean rest.old ++ map mean message.now) }
+    ensures { map F.mean rest.new ≡ divided F.field (map F.mean tail.now) (length message.now) (map F.mean rest.old ++ map F.mean message.now) }
 {
     for symbol in message {
         step(tail, *symbol, rest);
@@ -33,7 +33,7 @@ fn take_in<F: Field>(message: &[F], tail: &[F], rest: &mut [F])
 
 // Writes zero everywhere.
 pub(crate) fn clear<F: Field>(symbols: &mut [F])
-    ensures { map mean symbols.new ≡ zeros field (length symbols.old) }
+    ensures { map F.mean symbols.new ≡ zeros F.field (length symbols.old) }
 {
     let zero = F::zero();
     for symbol in symbols.iter_mut() {
@@ -43,7 +43,7 @@ pub(crate) fn clear<F: Field>(symbols: &mut [F])
 
 // Whether a division admits the divisor, and so many places for the rest.
 fn is_admitted<F: Field>(divisor: &[F], places: usize) -> bool
-    ensures value { result ≡ admitted field (map mean divisor.now) places }
+    ensures value { result ≡ admitted F.field (map F.mean divisor.now) places }
     ensures sizes { result ≡ true → (1 ≤ places) × (length divisor.now ≡ places + 1) }
 {
     if places < 1 || places > MAX_DEGREE {
@@ -57,18 +57,18 @@ fn is_admitted<F: Field>(divisor: &[F], places: usize) -> bool
 
 // Divides what `rest` holds, with the message behind it.
 fn divide_behind<F: Field>(message: &[F], divisor: &[F], rest: &mut [F])
-    requires shape { admitted field (map mean divisor.now) (length rest.old) ≡ true }
+    requires shape { admitted F.field (map F.mean divisor.now) (length rest.old) ≡ true }
     requires sizes { (1 ≤ length rest.old) × (length divisor.now ≡ length rest.old + 1) }
-    ensures { Remainder field (map mean rest.old ++ map mean message.now) (map mean divisor.now) (map mean rest.new) }
+    ensures { Remainder F.field (map F.mean rest.old ++ map F.mean message.now) (map F.mean divisor.now) (map F.mean rest.new) }
 {
     take_in(message, &divisor[1..], rest);
 }
 
 // Divides the message alone.
 pub(crate) fn divide<F: Field>(message: &[F], divisor: &[F], rest: &mut [F])
-    requires shape { admitted field (map mean divisor.now) (length rest.old) ≡ true }
+    requires shape { admitted F.field (map F.mean divisor.now) (length rest.old) ≡ true }
     requires sizes { (1 ≤ length rest.old) × (length divisor.now ≡ length rest.old + 1) }
-    ensures { Remainder field (map mean message.now) (map mean divisor.now) (map mean rest.new) }
+    ensures { Remainder F.field (map F.mean message.now) (map F.mean divisor.now) (map F.mean rest.new) }
 {
     clear(rest);
     divide_behind(message, divisor, rest);
@@ -77,7 +77,7 @@ pub(crate) fn divide<F: Field>(message: &[F], divisor: &[F], rest: &mut [F])
 // Writes the remainder of the message by the divisor to `rest`, all from the highest power down.
 // The divisor has degree 1 to 16 and begins with one, and `rest` has as many symbols as the degree.
 pub fn remainder<F: Field>(message: &[F], divisor: &[F], rest: &mut [F]) -> Result<(), Refusal>
-    ensures { Answered field mean (map mean message.now) divisor.now result rest.old rest.new }
+    ensures { Answered F.field F.mean (map F.mean message.now) divisor.now result rest.old rest.new }
 {
     if !is_admitted(divisor, rest.len()) {
         return Err(Refusal::Shape);
@@ -92,7 +92,7 @@ pub fn continue_remainder<F: Field>(
     divisor: &[F],
     rest: &mut [F],
 ) -> Result<(), Refusal>
-    ensures { Answered field mean (map mean rest.old ++ map mean more.now) divisor.now result rest.old rest.new }
+    ensures { Answered F.field F.mean (map F.mean rest.old ++ map F.mean more.now) divisor.now result rest.old rest.new }
 {
     if !is_admitted(divisor, rest.len()) {
         return Err(Refusal::Shape);

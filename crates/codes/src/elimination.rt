@@ -8,7 +8,7 @@ use gf::Field;
 // The entry at a row and a column, of rows of `width` symbols one after another.
 pub(crate) fn at<F: Field>(matrix: &[F], width: usize, row: usize, column: usize) -> F
     requires { row * width + column < length matrix.now }
-    ensures { mean result ≡ cells field mean width matrix.now row column }
+    ensures { F.mean result ≡ cells F.field F.mean width matrix.now row column }
 {
     matrix[row * width + column]
 }
@@ -16,15 +16,15 @@ pub(crate) fn at<F: Field>(matrix: &[F], width: usize, row: usize, column: usize
 // Writes the entry at a row and a column.
 pub(crate) fn put<F: Field>(matrix: &mut [F], width: usize, row: usize, column: usize, value: F)
     requires { (column < width) × (row * width + column < length matrix.old) }
-    ensures { Put width (cells field mean width matrix.old) row column (mean value) (cells field mean width matrix.new) }
+    ensures { Put width (cells F.field F.mean width matrix.old) row column (F.mean value) (cells F.field F.mean width matrix.new) }
 {
     matrix[row * width + column] = value;
 }
 
 // The factor by which `b` takes `a` to zero.
 fn clearing<F: Field>(a: F, b: F) -> F
-    requires { mean b ≢ field.zero }
-    ensures { field.add (mean a) (field.mul (mean result) (mean b)) ≡ field.zero }
+    requires { F.mean b ≢ F.field.zero }
+    ensures { F.field.add (F.mean a) (F.field.mul (F.mean result) (F.mean b)) ≡ F.field.zero }
 {
     a.mul(b.inv()).neg()
 }
@@ -32,7 +32,7 @@ fn clearing<F: Field>(a: F, b: F) -> F
 // The first row that is not zero in a column, of the rows from that number on.
 fn find_pivot<F: Field>(matrix: &[F], rows: usize, width: usize, column: usize) -> Option<usize>
     requires { (rows * width ≤ length matrix.now) × (column < width) }
-    ensures { MatchOption result (Free field rows column (cells field mean width matrix.now)) (λ p. Pivot field rows column (cells field mean width matrix.now) p) }
+    ensures { MatchOption result (Free F.field rows column (cells F.field F.mean width matrix.now)) (λ p. Pivot F.field rows column (cells F.field F.mean width matrix.now) p) }
 {
     let mut row = column;
     loop {
@@ -49,7 +49,7 @@ fn find_pivot<F: Field>(matrix: &[F], rows: usize, width: usize, column: usize) 
 // Exchanges two rows.
 fn swap_rows<F: Field>(matrix: &mut [F], width: usize, first: usize, second: usize)
     requires { (first * width + width ≤ length matrix.old) × (second * width + width ≤ length matrix.old) }
-    ensures { Swapped width width (cells field mean width matrix.old) first second (cells field mean width matrix.new) }
+    ensures { Swapped width width (cells F.field F.mean width matrix.old) first second (cells F.field F.mean width matrix.new) }
 {
     for column in 0..width {
         let upper = at(matrix, width, first, column);
@@ -63,9 +63,9 @@ fn swap_rows<F: Field>(matrix: &mut [F], width: usize, first: usize, second: usi
 fn clear_row<F: Field>(matrix: &mut [F], width: usize, pivot: usize, row: usize)
     requires within { (pivot * width + width ≤ length matrix.old) × ((row * width + width ≤ length matrix.old) × (pivot < width)) }
     requires other { row ≢ pivot }
-    requires some { cells field mean width matrix.old pivot pivot ≢ field.zero }
-    ensures cleared { Cleared field width pivot (cells field mean width matrix.old) row (cells field mean width matrix.new) }
-    ensures others { Others width (cells field mean width matrix.old) row (cells field mean width matrix.new) }
+    requires some { cells F.field F.mean width matrix.old pivot pivot ≢ F.field.zero }
+    ensures cleared { Cleared F.field width pivot (cells F.field F.mean width matrix.old) row (cells F.field F.mean width matrix.new) }
+    ensures others { Others width (cells F.field F.mean width matrix.old) row (cells F.field F.mean width matrix.new) }
 {
     let factor = clearing(
         at(matrix, width, row, pivot),
@@ -81,8 +81,8 @@ fn clear_row<F: Field>(matrix: &mut [F], width: usize, pivot: usize, row: usize)
 // Clears column `pivot` in the rows below row `pivot`.
 fn clear_below<F: Field>(matrix: &mut [F], rows: usize, width: usize, pivot: usize)
     requires within { (rows * width ≤ length matrix.old) × ((pivot < rows) × (pivot < width)) }
-    requires some { cells field mean width matrix.old pivot pivot ≢ field.zero }
-    ensures { Below field width rows pivot (cells field mean width matrix.old) (cells field mean width matrix.new) }
+    requires some { cells F.field F.mean width matrix.old pivot pivot ≢ F.field.zero }
+    ensures { Below F.field width rows pivot (cells F.field F.mean width matrix.old) (cells F.field F.mean width matrix.new) }
 {
     for row in pivot + 1..rows {
         clear_row(matrix, width, pivot, row);
@@ -92,7 +92,7 @@ fn clear_below<F: Field>(matrix: &mut [F], rows: usize, width: usize, pivot: usi
 // Brings the rows into steps, and returns the first column that has no pivot.
 fn reduce<F: Field>(matrix: &mut [F], rows: usize, width: usize) -> usize
     requires { (rows * width ≤ length matrix.old) × (rows < width) }
-    ensures { Reduced field rows width (cells field mean width matrix.old) (cells field mean width matrix.new) result }
+    ensures { Reduced F.field rows width (cells F.field F.mean width matrix.old) (cells F.field F.mean width matrix.new) result }
 {
     let mut column = 0;
     while column < rows {
@@ -109,9 +109,9 @@ fn reduce<F: Field>(matrix: &mut [F], rows: usize, width: usize) -> usize
 // What a row sends `vector` to, which is zero before place `from` and from place `to` on.
 fn dot<F: Field>(matrix: &[F], width: usize, row: usize, from: usize, to: usize, vector: &[F]) -> F
     requires within { (row * width + width ≤ length matrix.now) × ((width ≤ length vector.now) × ((from ≤ to) × (to ≤ width))) }
-    requires front { (j : ℕ) → j < from → entries field mean vector.now j ≡ field.zero }
-    requires back { (j : ℕ) → to ≤ j → entries field mean vector.now j ≡ field.zero }
-    ensures { mean result ≡ sent field width (cells field mean width matrix.now) row (entries field mean vector.now) }
+    requires front { (j : ℕ) → j < from → entries F.field F.mean vector.now j ≡ F.field.zero }
+    requires back { (j : ℕ) → to ≤ j → entries F.field F.mean vector.now j ≡ F.field.zero }
+    ensures { F.mean result ≡ sent F.field width (cells F.field F.mean width matrix.now) row (entries F.field F.mean vector.now) }
 {
     let mut sum = F::zero();
     for column in from..to {
@@ -123,7 +123,7 @@ fn dot<F: Field>(matrix: &[F], width: usize, row: usize, from: usize, to: usize,
 // Writes one at `free`, and zero elsewhere.
 fn single<F: Field>(vector: &mut [F], free: usize)
     requires { free < length vector.old }
-    ensures { Single field free (entries field mean vector.new) }
+    ensures { Single F.field free (entries F.field F.mean vector.new) }
 {
     clear(vector);
     vector[free] = F::one();
@@ -132,8 +132,8 @@ fn single<F: Field>(vector: &mut [F], free: usize)
 // Finds what the rows, in steps up to column `free`, send to zero, and that is one at `free`.
 fn substitute<F: Field>(matrix: &[F], rows: usize, width: usize, free: usize, vector: &mut [F])
     requires within { (rows * width ≤ length matrix.now) × ((free ≤ rows) × ((rows < width) × (width ≤ length vector.old))) }
-    requires shape { (Steps field rows free (cells field mean width matrix.now)) × (Free field rows free (cells field mean width matrix.now)) }
-    ensures { Kernel field rows width (cells field mean width matrix.now) (entries field mean vector.new) }
+    requires shape { (Steps F.field rows free (cells F.field F.mean width matrix.now)) × (Free F.field rows free (cells F.field F.mean width matrix.now)) }
+    ensures { Kernel F.field rows width (cells F.field F.mean width matrix.now) (entries F.field F.mean vector.new) }
 {
     single(vector, free);
     for row in (0..free).rev() {
@@ -145,7 +145,7 @@ fn substitute<F: Field>(matrix: &[F], rows: usize, width: usize, free: usize, ve
 // Writes to `vector` what is not zero, and each of the `rows` rows of `rows + 1` symbols sends to zero. The matrix is used up.
 pub(crate) fn kernel_vector<F: Field>(matrix: &mut [F], rows: usize, vector: &mut [F])
     requires { (rows * (rows + 1) ≤ length matrix.old) × (length vector.old ≡ rows + 1) }
-    ensures { Kernel field rows (rows + 1) (cells field mean (rows + 1) matrix.old) (entries field mean vector.new) }
+    ensures { Kernel F.field rows (rows + 1) (cells F.field F.mean (rows + 1) matrix.old) (entries F.field F.mean vector.new) }
 {
     let width = rows + 1;
     let free = reduce(matrix, rows, width);

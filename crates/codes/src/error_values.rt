@@ -10,8 +10,8 @@ use gf::Field;
 // Fills a column with the powers of a point, from the zeroth on.
 fn fill_column<F: Field>(matrix: &mut [F], rows: usize, column: usize, point: F)
     requires { (rows ≤ 8) × ((column < rows) × (rows * (rows + 1) ≤ length matrix.old)) }
-    ensures powers { Powers field rows (mean point) column (cells field mean (rows + 1) matrix.new) }
-    ensures others { Beside (rows + 1) (cells field mean (rows + 1) matrix.old) column (cells field mean (rows + 1) matrix.new) }
+    ensures powers { Powers F.field rows (F.mean point) column (cells F.field F.mean (rows + 1) matrix.new) }
+    ensures others { Beside (rows + 1) (cells F.field F.mean (rows + 1) matrix.old) column (cells F.field F.mean (rows + 1) matrix.new) }
 {
     let mut power = F::one();
     for i in 0..rows {
@@ -23,7 +23,7 @@ fn fill_column<F: Field>(matrix: &mut [F], rows: usize, column: usize, point: F)
 // Fills a column for each point.
 fn fill_columns<F: Field>(points: &[F], matrix: &mut [F])
     requires { (length points.now ≤ 8) × (length points.now * (length points.now + 1) ≤ length matrix.old) }
-    ensures { Columns field (length points.now) (entries field mean points.now) (length points.now) (cells field mean (length points.now + 1) matrix.new) }
+    ensures { Columns F.field (length points.now) (entries F.field F.mean points.now) (length points.now) (cells F.field F.mean (length points.now + 1) matrix.new) }
 {
     let rows = points.len();
     for k in 0..rows {
@@ -34,8 +34,8 @@ fn fill_columns<F: Field>(points: &[F], matrix: &mut [F])
 // Fills the last column with the first syndromes.
 fn fill_last<F: Field>(syndromes: &[F], matrix: &mut [F], rows: usize)
     requires { (rows ≤ 8) × ((rows ≤ length syndromes.now) × (rows * (rows + 1) ≤ length matrix.old)) }
-    ensures sums { (i : ℕ) → i < rows → cells field mean (rows + 1) matrix.new i rows ≡ entries field mean syndromes.now i }
-    ensures others { Beside (rows + 1) (cells field mean (rows + 1) matrix.old) rows (cells field mean (rows + 1) matrix.new) }
+    ensures sums { (i : ℕ) → i < rows → cells F.field F.mean (rows + 1) matrix.new i rows ≡ entries F.field F.mean syndromes.now i }
+    ensures others { Beside (rows + 1) (cells F.field F.mean (rows + 1) matrix.old) rows (cells F.field F.mean (rows + 1) matrix.new) }
 {
     for i in 0..rows {
         put(matrix, rows + 1, i, rows, syndromes[i]);
@@ -45,7 +45,7 @@ fn fill_last<F: Field>(syndromes: &[F], matrix: &mut [F], rows: usize)
 // Divides the entries before one by its negative.
 fn normalize<F: Field>(vector: &mut [F], last: usize)
     requires { last < length vector.old }
-    ensures { Normalized field last (entries field mean vector.old) (entries field mean vector.new) }
+    ensures { Normalized F.field last (entries F.field F.mean vector.old) (entries F.field F.mean vector.new) }
 {
     let factor = vector[last].inv().neg();
     for k in 0..last {
@@ -61,8 +61,8 @@ pub(crate) fn find_values<F: Field>(
     values: &mut [F],
 )
     requires sizes { (length points.now ≤ 8) × ((length points.now ≤ length syndromes.now) × ((length points.now < length values.old) × (length matrix.old ≡ 72))) }
-    requires apart { Apart (map mean points.now) }
-    ensures { (i : ℕ) → i < length points.now → power_sum field (map mean (take (length points.now) values.new)) (map mean points.now) i ≡ entries field mean syndromes.now i }
+    requires apart { Apart (map F.mean points.now) }
+    ensures { (i : ℕ) → i < length points.now → power_sum F.field (map F.mean (take (length points.now) values.new)) (map F.mean points.now) i ≡ entries F.field F.mean syndromes.now i }
 {
     let count = points.len();
     fill_columns(points, matrix);

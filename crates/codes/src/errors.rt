@@ -16,7 +16,7 @@ const MAX_ERRORS: usize = 8;
 
 // Takes an error off the syndromes.
 fn take_off<F: Field>(syndromes: &mut [F], point: F, value: F)
-    ensures { (i : ℕ) → i < length syndromes.old → entries field mean syndromes.new i ≡ field.add (entries field mean syndromes.old i) (field.neg (field.mul (mean value) (pow field (mean point) i))) }
+    ensures { (i : ℕ) → i < length syndromes.old → entries F.field F.mean syndromes.new i ≡ F.field.add (entries F.field F.mean syndromes.old i) (F.field.neg (F.field.mul (F.mean value) (pow F.field (F.mean point) i))) }
 {
     let mut term = value;
     for i in 0..syndromes.len() {
@@ -28,7 +28,7 @@ fn take_off<F: Field>(syndromes: &mut [F], point: F, value: F)
 // Takes all errors off the syndromes.
 fn take_all_off<F: Field>(syndromes: &mut [F], points: &[F], values: &[F])
     requires { length values.now ≡ length points.now }
-    ensures { Rest field (length syndromes.old) (map mean values.now) (map mean points.now) (entries field mean syndromes.old) (entries field mean syndromes.new) }
+    ensures { Rest F.field (length syndromes.old) (map F.mean values.now) (map F.mean points.now) (entries F.field F.mean syndromes.old) (entries F.field F.mean syndromes.new) }
 {
     for k in 0..points.len() {
         take_off(syndromes, points[k], values[k]);
@@ -39,7 +39,7 @@ fn take_all_off<F: Field>(syndromes: &mut [F], points: &[F], values: &[F])
 fn correct_places<F: Field>(word: &mut [F], places: &[usize], values: &[F]) -> usize
     requires sizes { length values.now ≡ length places.now }
     requires places { (Apart places.now) × (((k : ℕ) → Among k places.now → k < length word.old)) }
-    ensures { CorrectedPlaces field mean places.now (map mean values.now) word.old word.new result }
+    ensures { CorrectedPlaces F.field F.mean places.now (map F.mean values.now) word.old word.new result }
 {
     let mut changed = 0;
     for k in 0..places.len() {
@@ -62,9 +62,9 @@ fn find_errors<F: Field>(
     points: &mut [F],
     places: &mut [usize],
 ) -> usize
-    requires shape { (symbols ≤ field.reach) × (length syndromes.old ≤ 16) }
+    requires shape { (symbols ≤ F.field.reach) × (length syndromes.old ≤ 16) }
     requires room { (length matrix.old ≡ 72) × ((length vector.old ≡ 9) × ((8 ≤ length points.old) × (length places.old ≡ 8))) }
-    ensures errors { Found field (length syndromes.old) symbols (entries field mean syndromes.old) (entries field mean syndromes.new) (take result places.new) (map mean (take result vector.new)) }
+    ensures errors { Found F.field (length syndromes.old) symbols (entries F.field F.mean syndromes.old) (entries F.field F.mean syndromes.new) (take result places.new) (map F.mean (take result vector.new)) }
     ensures few { result ≤ 8 }
 {
     let found = locate(symbols, syndromes, matrix, vector, points, places);
@@ -80,9 +80,9 @@ pub(crate) fn correct_errors<F: Field>(
     syndromes: &mut [F],
     work: &mut [F],
 ) -> Result<usize, Refusal>
-    requires sizes { (length syndromes.old ≤ 16) × ((length syndromes.old ≤ length word.old) × ((length word.old ≤ field.reach) × (length work.old ≡ 496))) }
-    requires syndromes { Syndromes field (length syndromes.old) (map mean word.old) (entries field mean syndromes.old) }
-    ensures { Outcome field mean (length syndromes.old) word.old word.new result }
+    requires sizes { (length syndromes.old ≤ 16) × ((length syndromes.old ≤ length word.old) × ((length word.old ≤ F.field.reach) × (length work.old ≡ 496))) }
+    requires syndromes { Syndromes F.field (length syndromes.old) (map F.mean word.old) (entries F.field F.mean syndromes.old) }
+    ensures { Outcome F.field F.mean (length syndromes.old) word.old word.new result }
 {
     let (matrix, rest) = work.split_at_mut(MAX_ERRORS * (MAX_ERRORS + 1));
     let (vector, points) = rest.split_at_mut(MAX_ERRORS + 1);

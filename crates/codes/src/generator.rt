@@ -10,8 +10,8 @@ use gf::Field;
 // Multiplies the polynomial of that degree, in the first places, by x less that power of the root.
 fn take_factor<F: Field>(polynomial: &mut [F], degree: usize)
     requires sizes { (degree + 1 < length polynomial.old) × (degree < 16) }
-    requires before { Holds field (generator field degree) (entries field mean polynomial.old) }
-    ensures { Holds field (generator field (degree + 1)) (entries field mean polynomial.new) }
+    requires before { Holds F.field (generator F.field degree) (entries F.field F.mean polynomial.old) }
+    ensures { Holds F.field (generator F.field (degree + 1)) (entries F.field F.mean polynomial.new) }
 {
     for k in (0..degree + 1).rev() {
         polynomial[k + 1] = polynomial[k + 1].add(polynomial[k].times_root_power(degree).neg());
@@ -21,7 +21,7 @@ fn take_factor<F: Field>(polynomial: &mut [F], degree: usize)
 // Writes the generator, of one degree less than there are places.
 pub(crate) fn write_generator<F: Field>(polynomial: &mut [F])
     requires { (0 < length polynomial.old) × (length polynomial.old ≤ 17) }
-    ensures { map mean polynomial.new ≡ generator field (length polynomial.old - 1) }
+    ensures { map F.mean polynomial.new ≡ generator F.field (length polynomial.old - 1) }
 {
     clear(polynomial);
     polynomial[0] = F::one();

@@ -1,4 +1,6 @@
 // Polynomials over every field, and the check code: the remainder of a division, filling the checks of a word, and correcting a word.
+#![tactic(auto)]
+
 mod code;
 mod division;
 mod elimination;

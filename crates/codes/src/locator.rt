@@ -10,8 +10,8 @@ use gf::Field;
 // Fills a row with the syndromes from its number on, the latest first.
 fn fill_row<F: Field>(syndromes: &[F], matrix: &mut [F], degree: usize, row: usize)
     requires { (degree ≤ 8) × ((row < degree) × ((degree * 2 ≤ length syndromes.now) × (degree * (degree + 1) ≤ length matrix.old))) }
-    ensures filled { (j : ℕ) → j < degree + 1 → cells field mean (degree + 1) matrix.new row j ≡ entries field mean syndromes.now (row + (degree - j)) }
-    ensures others { Others (degree + 1) (cells field mean (degree + 1) matrix.old) row (cells field mean (degree + 1) matrix.new) }
+    ensures filled { (j : ℕ) → j < degree + 1 → cells F.field F.mean (degree + 1) matrix.new row j ≡ entries F.field F.mean syndromes.now (row + (degree - j)) }
+    ensures others { Others (degree + 1) (cells F.field F.mean (degree + 1) matrix.old) row (cells F.field F.mean (degree + 1) matrix.new) }
 {
     let width = degree + 1;
     for j in 0..width {
@@ -22,7 +22,7 @@ fn fill_row<F: Field>(syndromes: &[F], matrix: &mut [F], degree: usize, row: usi
 // Fills as many rows as the degree: the equations that a locator solves.
 fn fill_rows<F: Field>(syndromes: &[F], matrix: &mut [F], degree: usize)
     requires { (degree ≤ 8) × ((degree * 2 ≤ length syndromes.now) × (degree * (degree + 1) ≤ length matrix.old)) }
-    ensures { Recurring field degree (entries field mean syndromes.now) degree (cells field mean (degree + 1) matrix.new) }
+    ensures { Recurring F.field degree (entries F.field F.mean syndromes.now) degree (cells F.field F.mean (degree + 1) matrix.new) }
 {
     for row in 0..degree {
         fill_row(syndromes, matrix, degree, row);
@@ -32,7 +32,7 @@ fn fill_rows<F: Field>(syndromes: &[F], matrix: &mut [F], degree: usize)
 // Writes a locator polynomial: one that is not zero, and by which the syndromes recur.
 fn find_locator<F: Field>(syndromes: &[F], matrix: &mut [F], locator: &mut [F], degree: usize)
     requires { (degree ≤ 8) × ((length locator.old ≡ degree + 1) × ((degree * 2 ≤ length syndromes.now) × (degree * (degree + 1) ≤ length matrix.old))) }
-    ensures { Locator field degree (entries field mean syndromes.now) (map mean locator.new) }
+    ensures { Locator F.field degree (entries F.field F.mean syndromes.now) (map F.mean locator.new) }
 {
     fill_rows(syndromes, matrix, degree);
     kernel_vector(matrix, degree, locator);
@@ -41,8 +41,8 @@ fn find_locator<F: Field>(syndromes: &[F], matrix: &mut [F], locator: &mut [F], 
 // The sum of the terms of a polynomial, which then go on to the next power of the root.
 fn next_value<F: Field>(terms: &mut [F]) -> F
     requires { (0 < length terms.old) × (length terms.old ≤ 16) }
-    ensures value { mean result ≡ total field (map mean terms.old) }
-    ensures next { map mean terms.new ≡ terms_of field field.root (map mean terms.old) }
+    ensures value { F.mean result ≡ total F.field (map F.mean terms.old) }
+    ensures next { map F.mean terms.new ≡ terms_of F.field F.field.root (map F.mean terms.old) }
 {
     let mut value = F::zero();
     let last = terms.len() - 1;
@@ -62,10 +62,10 @@ fn find_places<F: Field>(
     points: &mut [F],
     places: &mut [usize],
 ) -> usize
-    requires sizes { (symbols ≤ field.reach) × ((0 < length terms.old) × ((length terms.old ≤ 16) × ((length terms.old ≤ length places.old + 1) × (length terms.old ≤ length points.old + 1)))) }
-    requires some { map mean terms.old ≢ zeros field (length terms.old) }
-    ensures places { Suspects field (map mean terms.old) symbols symbols (take result places.new) }
-    ensures points { map mean (take result points.new) ≡ map (point field symbols) (take result places.new) }
+    requires sizes { (symbols ≤ F.field.reach) × ((0 < length terms.old) × ((length terms.old ≤ 16) × ((length terms.old ≤ length places.old + 1) × (length terms.old ≤ length points.old + 1)))) }
+    requires some { map F.mean terms.old ≢ zeros F.field (length terms.old) }
+    ensures places { Suspects F.field (map F.mean terms.old) symbols symbols (take result places.new) }
+    ensures points { map F.mean (take result points.new) ≡ map (point F.field symbols) (take result places.new) }
     ensures few { result < length terms.old }
 {
     let mut found = 0;
@@ -90,10 +90,10 @@ pub(crate) fn locate<F: Field>(
     points: &mut [F],
     places: &mut [usize],
 ) -> usize
-    requires shape { (symbols ≤ field.reach) × (length syndromes.now ≤ 16) }
+    requires shape { (symbols ≤ F.field.reach) × (length syndromes.now ≤ 16) }
     requires room { (length matrix.old ≡ 72) × ((length vector.old ≡ 9) × ((8 ≤ length points.old) × (length places.old ≡ 8))) }
-    ensures places { Located field (length syndromes.now / 2) symbols (entries field mean syndromes.now) (take result places.new) }
-    ensures points { map mean (take result points.new) ≡ map (point field symbols) (take result places.new) }
+    ensures places { Located F.field (length syndromes.now / 2) symbols (entries F.field F.mean syndromes.now) (take result places.new) }
+    ensures points { map F.mean (take result points.new) ≡ map (point F.field symbols) (take result places.new) }
     ensures few { result ≤ length syndromes.now / 2 }
 {
     let degree = syndromes.len() / 2;

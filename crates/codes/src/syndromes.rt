@@ -10,7 +10,7 @@ use gf::Field;
 // Takes the next symbol of a word into each value, by Horner's rule at the power of the root that the place says.
 fn take_in<F: Field>(syndromes: &mut [F], symbol: F)
     requires { length syndromes.old ≤ 16 }
-    ensures { Taken field (length syndromes.old) (mean symbol) (entries field mean syndromes.old) (entries field mean syndromes.new) }
+    ensures { Taken F.field (length syndromes.old) (F.mean symbol) (entries F.field F.mean syndromes.old) (entries F.field F.mean syndromes.new) }
 {
     for i in 0..syndromes.len() {
         syndromes[i] = syndromes[i].times_root_power(i).add(symbol);
@@ -20,7 +20,7 @@ fn take_in<F: Field>(syndromes: &mut [F], symbol: F)
 // Writes at each place the value of the word at that power of the root.
 pub(crate) fn write_syndromes<F: Field>(word: &[F], syndromes: &mut [F])
     requires { length syndromes.old ≤ 16 }
-    ensures { Syndromes field (length syndromes.old) (map mean word.now) (entries field mean syndromes.new) }
+    ensures { Syndromes F.field (length syndromes.old) (map F.mean word.now) (entries F.field F.mean syndromes.new) }
 {
     clear(syndromes);
     for symbol in word {
@@ -30,7 +30,7 @@ pub(crate) fn write_syndromes<F: Field>(word: &[F], syndromes: &mut [F])
 
 // Whether all symbols mean zero.
 pub(crate) fn are_zero<F: Field>(symbols: &[F]) -> bool
-    ensures { result ≡ all_zero field (map mean symbols.now) }
+    ensures { result ≡ all_zero F.field (map F.mean symbols.now) }
 {
     let zero = F::zero();
     let mut all = true;

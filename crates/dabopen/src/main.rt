@@ -1,4 +1,6 @@
 // Opens recorded super frames: prints what each header says, and whether each unit's check is right.
+#![tactic(auto)]
+
 ghost use Rattle.std.specs.Prelude.{◌≤◌, IfSome};
 
 mod failure;

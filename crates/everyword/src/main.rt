@@ -1,4 +1,6 @@
 // Corrects every word of some small codes over Gf16, and holds each answer against all codewords, one by one.
+#![tactic(auto)]
+
 use codes::{WORK_SYMBOLS, correct};
 use gf::{Field, Gf16, Refusal};
 

@@ -1,4 +1,6 @@
 // Finite fields: what each has to keep, the fields of 2, 16 and 256 elements, and the refusals of the whole library.
+#![tactic(auto)]
+
 mod field;
 mod gf16;
 mod gf2;

@@ -1,4 +1,6 @@
 // Rows of a block for callers in C: 120 bytes, of which the last ten are checks.
+#![tactic(auto)]
+
 ghost use Rattle.rows.specs.Rows.{Answered};
 
 use codes::correct;

@@ -1,4 +1,5 @@
 // Runs recordings and worked examples through the library, and prints what came out.
+#![tactic(auto)]
 
 mod codewords;
 mod examples;

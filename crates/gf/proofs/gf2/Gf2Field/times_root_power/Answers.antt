@@ -3,4 +3,4 @@ use Rattle.gf.specs.Numbers.{root-power-one}
 use Rattle.gf.proofs.gf2.Gf2Field.times_root_power.Goals as goal
 
 pub returns : goal.returns
-returns c = root-power-one c.args.self.0 (c.args.-exponent % 16)
+returns c = root-power-one c.args.self.0 (c.args._exponent % 16)
