@@ -1,5 +1,5 @@
 -- A division whose register has the message added in front: the register holds the remainder of the message times x ^ degree.
-use Rattle.std.proofs.Common.{◌≡◌, ℕ, zero, ◌+◌, ◌-◌, ◌≤◌, List, [], ◌∷◌, ◌++◌, length, sym, refl, ap, ◌∙◌, ap₂, append_assoc, add_comm, arith, length-append}
+use Rattle.std.proofs.Common.{◌≡◌, ℕ, ◌+◌, ◌-◌, ◌≤◌, List, [], ◌∷◌, ◌++◌, length, sym, refl, ap, ◌∙◌, ap₂, append_assoc, add_comm, arith, length-append}
 use lib.ListN.{length-replicate, replicate-append-replicate}
 use Rattle.gf.specs.Theory.{Operations, Laws}
 use Rattle.codes.specs.Polynomials.{zeros, over, plus}

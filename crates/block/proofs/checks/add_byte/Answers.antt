@@ -27,8 +27,8 @@ loop-i-preserved c =
           ∙ ap₂ (plus 1)
           (sym (get_or-map mean c.loop-i.register i (record { 0 = 0 }) gf2.zero (omega (arith, c.loop-i.invariant.0)))
           ∙ ap (λ xs. get_or xs i gf2.zero) c.loop-i.invariant.1 ∙ ahead_here new old i sized (omega arith))
-          (sym (get_or-map mean c.bits-of-bits.result i (record { 0 = 0 }) gf2.zero (omega (arith, length-map c.bits-of-bits.result mean, ap length c.bits-of-bits.ensures, length-byte c.args.byte)))
-          ∙ ap (λ xs. get_or xs i gf2.zero) c.bits-of-bits.ensures)
+          (sym (get_or-map mean c.bits_of-bits.result i (record { 0 = 0 }) gf2.zero (omega (arith, length-map c.bits_of-bits.result mean, ap length c.bits_of-bits.ensures, length-byte c.args.byte)))
+          ∙ ap (λ xs. get_or xs i gf2.zero) c.bits_of-bits.ensures)
           ∙ sym (get_d_over gf2 old byte i (omega arith) (omega (arith, length-byte c.args.byte))))
           ∙ advance gf2.zero new old i sized (omega arith),
     )

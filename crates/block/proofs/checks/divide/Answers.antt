@@ -19,8 +19,8 @@ loop-byte-preserved c =
     let bytes = c.args.bytes.now in
     let i = c.loop-byte.byte-index in (
       omega (arith, c.loop-byte-test.true),
-      c.take-in.array_long,
-      c.take-in.ensures
+      c.take_in.array_long,
+      c.take_in.ensures
           ∙ covered_next start generator refl c.requires (take i bytes) (get_or bytes i 0) (meanings c.loop-byte.register) c.loop-byte.invariant.2
           ∙ ap (λ bs. remainder_of gf2 (covered start bs) generator) (sym (take_more bytes i 0 c.loop-byte-test.true)),
     )

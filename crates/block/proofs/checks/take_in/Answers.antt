@@ -11,8 +11,8 @@ use Rattle.block.proofs.checks.take_in.Goals as goal
 pub returns : goal.returns
 returns c =
     let generator = meanings c.args.generator.now in
-    let register = c.add-byte.new.register in
+    let register = c.add_byte.new.register in
     let mean : Gf2 → _ = λ s. bits 1 s.0 in
-    answered_value gf2 mean (meanings register ++ replicate 8 (bits 1 0)) c.args.generator.now c.continue-remainder.result
-    register c.continue-remainder.new.rest c.continue-remainder.ensures (ap (admitted gf2 generator) c.add-byte.array_long ∙ c.requires)
-    ∙ ap₂ (λ r z. remainder_of gf2 (r ++ replicate 8 z) generator) c.add-byte.ensures (bits-zero 1)
+    answered_value gf2 mean (meanings register ++ replicate 8 (bits 1 0)) c.args.generator.now c.continue_remainder.result
+    register c.continue_remainder.new.rest c.continue_remainder.ensures (ap (admitted gf2 generator) c.add_byte.array_long ∙ c.requires)
+    ∙ ap₂ (λ r z. remainder_of gf2 (r ++ replicate 8 z) generator) c.add_byte.ensures (bits-zero 1)

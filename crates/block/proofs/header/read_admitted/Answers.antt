@@ -9,11 +9,11 @@ pub returns-in-err-open : goal.returns-in-err-open
 returns-in-err-open c =
     let size = c.args.size in
     let block = c.args.block.now in
-    let p = err_from_is_err_and c.from-residual.result c.from-residual.ensures.1 in
-    let value : c.from-residual.result ≡ header size block =
+    let p = err_from_is_err_and c.from_residual.result c.from_residual.ensures.1 in
+    let value : c.from_residual.result ≡ header size block =
     p.1 ∙ ap Err p.2 ∙ ap converted (sym c.in-err-open.was ∙ c.open.ensures)
     ∙ opened-header size block tt c.requires.admitted in
-    record { value = value; tiles = tiled_answer size block c.from-residual.result value }
+    record { value = value; tiles = tiled_answer size block c.from_residual.result value }
 
 pub returns : goal.returns
 returns c =

@@ -10,7 +10,7 @@ loop-n-preserved c =
     let l = c.args.layout.now in
     let packed = c.args.packed.now in
     let n = c.loop-n.n in
-    subst (λ (v : ℕ). Written l c.args.size packed (n + 1) (set c.loop-n.starts n v)) (sym c.packed-start.ensures)
+    subst (λ (v : ℕ). Written l c.args.size packed (n + 1) (set c.loop-n.starts n v)) (sym c.packed_start.ensures)
     (written_packed l c.args.size packed n c.loop-n.starts (omega (arith, c.loop-n.auto.n)) c.loop-n-test.true c.requires.0.few c.loop-n.invariant)
 
 pub returns : goal.returns

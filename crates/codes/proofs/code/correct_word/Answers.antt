@@ -4,13 +4,13 @@ use Rattle.codes.specs.Elimination.{entries}
 use Rattle.codes.proofs.Outcomes.{all_zero_at, outcome_clean}
 use Rattle.codes.proofs.code.correct_word.Goals as goal
 
-pub returns-then-are-zero : goal.returns-then-are-zero
+pub returns-then-are_zero : goal.returns-then-are_zero
 unfolding entries
-returns-then-are-zero g c =
+returns-then-are_zero g c =
     let F = g.F.Field in
-    let syndromes = c.write-syndromes.new.syndromes in
-    let part : length (take c.args.checks c.split-at-mut-syndromes.result.0.now) ≡ c.args.checks = search rules in
+    let syndromes = c.write_syndromes.new.syndromes in
+    let part : length (take c.args.checks c.split_at_mut-syndromes.result.0.now) ≡ c.args.checks = search rules in
     let many : length syndromes ≡ c.args.checks = search rules in
     outcome_clean g.met.F.Field.laws F.mean c.args.checks c.args.word.now (omega (arith, c.requires.word)) c.requires.word.1
-    (λ i h. sym (c.write-syndromes.ensures i (omega (arith, part)))
-    ∙ all_zero_at g.met.F.Field.laws (map F.mean syndromes) (sym c.if-are-zero.ensures) i (omega (arith, many, length-map syndromes F.mean)))
+    (λ i h. sym (c.write_syndromes.ensures i (omega (arith, part)))
+    ∙ all_zero_at g.met.F.Field.laws (map F.mean syndromes) (sym c.if-are_zero.ensures) i (omega (arith, many, length-map syndromes F.mean)))

@@ -8,6 +8,6 @@ returns g c =
     let F = g.F.Field in
     let message = map F.mean c.args.message.now in
     let divisor = map F.mean c.args.divisor.now in
-    let rest = map F.mean c.divide-behind.new.rest in
+    let rest = map F.mean c.divide_behind.new.rest in
     alone g.met.F.Field.laws (length c.args.rest.now) divisor c.requires.shape (length c.args.rest.now) message rest
-    (subst (λ cleared. Remainder F.field (cleared ++ message) divisor rest) c.clear.ensures c.divide-behind.ensures)
+    (subst (λ cleared. Remainder F.field (cleared ++ message) divisor rest) c.clear.ensures c.divide_behind.ensures)

@@ -3,5 +3,5 @@ use Rattle.codes.proofs.division.divide_behind.Goals as goal
 
 pub returns : goal.returns
 returns g c =
-    behind g.met.F.Field.laws g.F.Field.mean c.args.divisor.now c.args.message.now c.args.rest.now c.take-in.new.rest
-    c.requires.shape c.take-in.ensures
+    behind g.met.F.Field.laws g.F.Field.mean c.args.divisor.now c.args.message.now c.args.rest.now c.take_in.new.rest
+    c.requires.shape c.take_in.ensures

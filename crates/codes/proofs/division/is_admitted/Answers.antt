@@ -27,6 +27,6 @@ returns g c =
     let divisor = c.args.divisor.now in
     let lead = read f F.mean divisor 0 c.index-divisor-0.result (omega (arith, c.if-divisor-places.false)) c.index-divisor-0.is in record {
       value = c.same.ensures ∙ ap₂ f.equal lead c.one.ensures
-          ∙ admitted_by_lead f c.args.places (map F.mean divisor) c.if-places-lt1.false c.if-places-gt-MAX-DEGREE.false (length-map divisor F.mean ∙ c.if-divisor-places.false);
+          ∙ admitted_by_lead f c.args.places (map F.mean divisor) c.if-places-lt1.false c.if-places-gt-MAX_DEGREE.false (length-map divisor F.mean ∙ c.if-divisor-places.false);
       sizes = λ e. (c.if-places-lt1.false, c.if-divisor-places.false);
     }

@@ -4,26 +4,26 @@ use Rattle.codes.specs.Elimination.{entries}
 use Rattle.codes.proofs.Outcomes.{all_zero_at, all_zero_of, outcome_right, outcome_wrong}
 use Rattle.codes.proofs.errors.correct_errors.Goals as goal
 
-pub returns-then-not-are-zero : goal.returns-then-not-are-zero
+pub returns-then-not-are_zero : goal.returns-then-not-are_zero
 unfolding entries
-returns-then-not-are-zero g c =
+returns-then-not-are_zero g c =
     let F = g.F.Field in
-    let left = c.find-errors-found.new.syndromes in
-    let long : length left ≡ length c.args.syndromes.now = c.find-errors-found.auto.syndromes in (
+    let left = c.find_errors-found.new.syndromes in
+    let long : length left ≡ length c.args.syndromes.now = c.find_errors-found.auto.syndromes in (
       refl,
       outcome_wrong g.met.F.Field.laws F.mean _ c.args.word.now _ _ _ _
-          c.requires.sizes.1.0 c.requires.sizes.1.1.0 c.requires.syndromes c.find-errors-found.ensures.errors
+          c.requires.sizes.1.0 c.requires.sizes.1.1.0 c.requires.syndromes c.find_errors-found.ensures.errors
           (λ z. true≢false (sym (all_zero_of g.met.F.Field.laws (map F.mean left) (λ i h. z i (omega (arith, long, length-map left F.mean))))
-          ∙ sym c.if-not-are-zero.ensures)),
+          ∙ sym c.if-not-are_zero.ensures)),
     )
 
 pub returns : goal.returns
 unfolding entries
 returns g c =
     let F = g.F.Field in
-    let left = c.find-errors-found.new.syndromes in
-    let long : length left ≡ length c.args.syndromes.now = c.find-errors-found.auto.syndromes in
+    let left = c.find_errors-found.new.syndromes in
+    let long : length left ≡ length c.args.syndromes.now = c.find_errors-found.auto.syndromes in
     outcome_right g.met.F.Field.laws F.mean _ c.args.word.now _ _ _ _
-    c.requires.sizes.1.0 c.requires.sizes.1.1.0 c.requires.syndromes c.find-errors-found.ensures.errors c.correct-places.new.word c.correct-places.result
-    (λ i h. all_zero_at g.met.F.Field.laws (map F.mean left) (sym c.if-not-are-zero.ensures) i (omega (arith, long, length-map left F.mean)))
-    c.correct-places.ensures
+    c.requires.sizes.1.0 c.requires.sizes.1.1.0 c.requires.syndromes c.find_errors-found.ensures.errors c.correct_places.new.word c.correct_places.result
+    (λ i h. all_zero_at g.met.F.Field.laws (map F.mean left) (sym c.if-not-are_zero.ensures) i (omega (arith, long, length-map left F.mean)))
+    c.correct_places.ensures

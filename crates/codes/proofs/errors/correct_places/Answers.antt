@@ -11,14 +11,14 @@ bounds-word-places g c =
     let inside = c.requires.places.1 (get_or c.args.places.now c.loop-k.k 0) (among_at c.args.places.now c.loop-k.k 0 c.loop-k-test.true) in
     omega (arith, inside, c.loop-k.invariant.1.long)
 
-pub offset-bounds-word-places : goal.offset-bounds-word-places
-offset-bounds-word-places g c =
+pub offset_bounds-word-places : goal.offset_bounds-word-places
+offset_bounds-word-places g c =
     let h : get_or c.args.places.now c.loop-k.k 0 < length c.loop-k.word =
     omega (arith, c.requires.places.1 (get_or c.args.places.now c.loop-k.k 0) (among_at c.args.places.now c.loop-k.k 0 c.loop-k-test.true), c.loop-k.invariant.1.long) in
     search rules
 
-pub offset-bounds-word-places-then-not-same : goal.offset-bounds-word-places-then-not-same
-offset-bounds-word-places-then-not-same g c =
+pub offset_bounds-word-places-then-not-same : goal.offset_bounds-word-places-then-not-same
+offset_bounds-word-places-then-not-same g c =
     let h : get_or c.args.places.now c.loop-k.k 0 < length c.loop-k.word =
     omega (arith, c.requires.places.1 (get_or c.args.places.now c.loop-k.k 0) (among_at c.args.places.now c.loop-k.k 0 c.loop-k-test.true), c.loop-k.invariant.1.long) in
     search rules

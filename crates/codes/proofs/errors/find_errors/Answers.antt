@@ -6,8 +6,8 @@ use Rattle.codes.specs.Decoding.{Rest}
 use Rattle.codes.proofs.Suspects.{points-apart}
 use Rattle.codes.proofs.errors.find_errors.Goals as goal
 
-pub find-values-requires : goal.find-values-requires
-find-values-requires g c =
+pub find_values-requires : goal.find_values-requires
+find_values-requires g c =
     let F = g.F.Field in
     let found = c.locate-found.result in
     let few = c.locate-found.ensures.few in
@@ -30,7 +30,7 @@ returns g c =
     let s = entries f F.mean c.args.syndromes.now in
     let found = c.locate-found.result in
     let few = c.locate-found.ensures.few in
-    let values = c.find-values.new.values in
+    let values = c.find_values.new.values in
     let places = c.locate-found.new.places in
     let points = c.locate-found.new.points in
     let vector : length values ≡ 9 = search rules in
@@ -44,9 +44,9 @@ returns g c =
         many = length-map (take found values) F.mean ∙ length-take-le found values (omega (arith, c.requires.shape)) ∙ sym many;
         solved = λ i h.
             ap₂ (λ (n : ℕ) xs. power_sum f (map F.mean (take n values)) xs i) (sym many-points) (sym c.locate-found.ensures.points)
-            ∙ c.find-values.ensures i (omega (arith, many, many-points));
-        rest = subst (λ xs. Rest f (length c.args.syndromes.now) (map F.mean (take found values)) xs s (entries f F.mean c.take-all-off.new.syndromes))
-            c.locate-found.ensures.points c.take-all-off.ensures;
+            ∙ c.find_values.ensures i (omega (arith, many, many-points));
+        rest = subst (λ xs. Rest f (length c.args.syndromes.now) (map F.mean (take found values)) xs s (entries f F.mean c.take_all_off.new.syndromes))
+            c.locate-found.ensures.points c.take_all_off.ensures;
       };
       few = omega (arith, c.requires.shape);
     }

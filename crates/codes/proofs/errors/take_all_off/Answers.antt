@@ -19,9 +19,9 @@ loop-k-preserved g c =
     let xs = c.args.points.now in
     let many : k < length ys = omega (arith, c.requires, c.loop-k-test.true) in
     rest_more g.met.F.Field.laws (length c.args.syndromes.now) (map F.mean ys) (map F.mean xs) k
-    (entries f F.mean c.args.syndromes.now) (entries f F.mean c.loop-k.syndromes) (entries f F.mean c.take-off.new.syndromes)
+    (entries f F.mean c.args.syndromes.now) (entries f F.mean c.loop-k.syndromes) (entries f F.mean c.take_off.new.syndromes)
     (omega (arith, length-map ys F.mean)) (omega (arith, length-map xs F.mean, c.loop-k-test.true)) c.loop-k.invariant
-    (λ i h. c.take-off.ensures i (omega (arith, c.loop-k.auto.syndromes))
+    (λ i h. c.take_off.ensures i (omega (arith, c.loop-k.auto.syndromes))
     ∙ ap₂ (λ y x. f.add (entries f F.mean c.loop-k.syndromes i) (f.neg (f.mul y (pow f x i))))
     (read f F.mean ys k c.index-values-k.result many c.index-values-k.is)
     (read f F.mean xs k c.index-points-k.result c.loop-k-test.true c.index-points-k.is))

@@ -24,7 +24,7 @@ loop-k-preserved g c =
     (subst (λ (n : ℕ). Between f n (generator f r) (generator f (r + 1)) (entries f F.mean xs)) at c.loop-k.invariant)
     (place_set f F.mean xs (k + 1) c.add.result (omega arith) ∙ c.add.ensures
     ∙ ap₂ f.add here (c.neg.ensures
-    ∙ ap f.neg (c.times-root-power.ensures ∙ ap₂ (λ y (n : ℕ). f.mul y (pow f f.root n)) before (mod-eq_of_lt c.requires.sizes.1))))
+    ∙ ap f.neg (c.times_root_power.ensures ∙ ap₂ (λ y (n : ℕ). f.mul y (pow f f.root n)) before (mod-eq_of_lt c.requires.sizes.1))))
     (λ j d. place_other f F.mean xs (k + 1) j c.add.result d)
 
 pub returns : goal.returns

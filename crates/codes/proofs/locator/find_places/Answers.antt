@@ -8,7 +8,7 @@ use Rattle.codes.proofs.Searching.{terms_one, terms_terms, hit, miss, room, poin
 use Rattle.codes.proofs.Suspects.{suspects-none}
 use Rattle.codes.proofs.locator.find_places.Given as given
 use Rattle.codes.proofs.locator.find_places.Goals as goal
-use Rattle.codes.proofs.locator.find_places.Goals.{then_same, else_same}
+use Rattle.codes.proofs.locator.find_places.Goals.{then-same, else-same}
 
 pub loop-exponent-init : goal.loop-exponent-init
 loop-exponent-init g c = (sym (terms_one g.met.F.Field.laws _), c.one-point.ensures, suspects-none g.met.F.Field.laws _ _, refl, c.requires.sizes.1.0)
@@ -20,7 +20,7 @@ fewer g c =
     let f = F.field in
     let p = map F.mean c.args.terms.now in
     let long = length-map c.args.terms.now F.mean in
-    let sum = ap (total f) (sym c.loop-exponent.invariant.0) ∙ sym c.next-value.ensures.value ∙ g.met.F.Field.laws.equal_no _ _ (sym c.if-same.ensures) ∙ c.zero.ensures in
+    let sum = ap (total f) (sym c.loop-exponent.invariant.0) ∙ sym c.next_value.ensures.value ∙ g.met.F.Field.laws.equal_no _ _ (sym c.if-same.ensures) ∙ c.zero.ensures in
     omega (
       arith,
       long,
@@ -44,11 +44,11 @@ loop-exponent-preserved g c =
     let p = map F.mean c.args.terms.now in
     let long = length-map c.args.terms.now F.mean in
     let power = pow f f.root e in
-    let sum = c.next-value.ensures.value ∙ ap (total f) c.loop-exponent.invariant.0 in
-    let next-terms = c.next-value.ensures.next ∙ ap (terms_of f f.root) c.loop-exponent.invariant.0 ∙ terms_terms laws power f.root p ∙ ap (λ (k : ℕ). terms_of f (pow f f.root k) p) (sym (add-one e)) in
-    let next-point = c.times-root-power-point.ensures ∙ ap₂ f.mul c.loop-exponent.invariant.1 (laws.mul-one f.root) ∙ laws.mul_comm power f.root ∙ ap (pow f f.root) (sym (add-one e)) in
+    let sum = c.next_value.ensures.value ∙ ap (total f) c.loop-exponent.invariant.0 in
+    let next-terms = c.next_value.ensures.next ∙ ap (terms_of f f.root) c.loop-exponent.invariant.0 ∙ terms_terms laws power f.root p ∙ ap (λ (k : ℕ). terms_of f (pow f f.root k) p) (sym (add-one e)) in
+    let next-point = c.times_root_power-point.ensures ∙ ap₂ f.mul c.loop-exponent.invariant.1 (laws.mul-one f.root) ∙ laws.mul_comm power f.root ∙ ap (pow f f.root) (sym (add-one e)) in
     elim c.if-same.branch [
-      | then_same w ↦
+      | then-same w ↦
           let root = sym sum ∙ laws.equal_no _ _ (sym w.if-same.ensures) ∙ c.zero.ensures in
           let more = room laws p c.args.symbols e c.loop-exponent-test.true c.loop-exponent.places found root
           c.loop-exponent.invariant.2 c.requires.sizes.0 (omega (arith, long, c.requires.sizes)) (λ z. c.requires.some (z ∙ ap (zeros f) long)) (omega (arith, c.requires.sizes, c.loop-exponent.invariant.4, c.loop-exponent.auto)) in
@@ -65,7 +65,7 @@ loop-exponent-preserved g c =
                 ∙ ap (map (point f c.args.symbols)) places-are,
             omega (arith, w.found-is, more, long),
           )
-      | else_same w ↦
+      | else-same w ↦
           let places-are = ap₂ (λ (k : ℕ) xs. take k xs) (sym w.found-is) (sym w.places-is) in (
             next-terms,
             next-point,

@@ -36,8 +36,8 @@ loop-k-preserved g c =
     ∙ next_as_was f.zero new old k (length-terms_of f f.root old) (omega arith) in
     let power : (length c.args.terms.now - 1 - k) % 16 ≡ length old - 1 - k = omega (arith, end, c.requires) in (
       c.add-value.ensures ∙ ap₂ f.add c.loop-k.invariant.0 symbol ∙ sym (total-next g.met.F.Field.laws old k here),
-      map-set F.mean c.loop-k.terms k c.times-root-power.result
+      map-set F.mean c.loop-k.terms k c.times_root_power.result
           ∙ ap₂ (λ xs x. set xs k x) c.loop-k.invariant.1
-          (c.times-root-power.ensures ∙ ap₂ (λ x (n : ℕ). f.mul x (pow f f.root n)) symbol power ∙ sym (terms_at f f.root old k here))
+          (c.times_root_power.ensures ∙ ap₂ (λ x (n : ℕ). f.mul x (pow f f.root n)) symbol power ∙ sym (terms_at f f.root old k here))
           ∙ advance f.zero new old k (length-terms_of f f.root old) here,
     )

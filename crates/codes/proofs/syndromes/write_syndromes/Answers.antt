@@ -16,8 +16,8 @@ loop-symbol-preserved g c i h =
     let f = F.field in
     let now = c.loop-symbol.syndromes in
     syndromes_more g.met.F.Field.laws F.mean c.args.word.now c.loop-symbol.symbol-index c.symbol-item.result (length now)
-    (entries f F.mean now) (entries f F.mean c.take-in.new.syndromes) c.loop-symbol-test.true c.symbol-item.is
-    (λ j b. c.loop-symbol.invariant j (omega arith)) c.take-in.ensures i (omega arith)
+    (entries f F.mean now) (entries f F.mean c.take_in.new.syndromes) c.loop-symbol-test.true c.symbol-item.is
+    (λ j b. c.loop-symbol.invariant j (omega arith)) c.take_in.ensures i (omega arith)
 
 pub returns : goal.returns
 returns g c i h =
