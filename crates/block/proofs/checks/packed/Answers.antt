@@ -3,11 +3,11 @@ use Rattle.block.specs.Checks.{binary, meanings}
 use Rattle.block.proofs.Packing.{word_fits, symbol_more}
 use Rattle.block.proofs.checks.packed.Goals as goal
 
-pub overflow-mul-word : goal.overflow-mul-word
-overflow-mul-word c = omega (arith, word_fits c.args.symbols.now c.loop-symbol.symbol-index c.loop-symbol-test.true, c.loop-symbol.invariant.1)
+pub overflow_mul-word : goal.overflow_mul-word
+overflow_mul-word c = omega (arith, word_fits c.args.symbols.now c.loop-symbol.symbol-index c.loop-symbol-test.true, c.loop-symbol.invariant.1)
 
-pub overflow-add-word : goal.overflow-add-word
-overflow-add-word c =
+pub overflow_add-word : goal.overflow_add-word
+overflow_add-word c =
     omega (arith, word_fits c.args.symbols.now c.loop-symbol.symbol-index c.loop-symbol-test.true, c.loop-symbol.invariant.1, c.from.ensures)
 
 pub loop-symbol-preserved : goal.loop-symbol-preserved
