@@ -13,6 +13,7 @@ use report::{Tally, report_block};
 use std::env;
 use std::fs::File;
 use std::io::Read;
+use std::process::ExitCode;
 
 // The subchannel index that a word names.
 fn parse_size(word: &str) -> Option<usize>
@@ -66,10 +67,12 @@ fn run(rt: &HostRuntime) -> Result<(), Failure> {
     }
 }
 
-fn main(rt: HostRuntime) -> Result<(), Failure> {
-    let result = run(&rt);
-    if let Err(failure) = &result {
-        let _ = rt.eprintln(failure);
+fn main(rt: HostRuntime) -> ExitCode {
+    match run(&rt) {
+        Ok(()) => ExitCode::SUCCESS,
+        Err(failure) => {
+            let _ = eprintln!(rt; "{failure}");
+            ExitCode::FAILURE
+        }
     }
-    result
 }

@@ -1,5 +1,8 @@
-// Corrects every word of some small codes over Gf16, and holds each answer against all codewords, one by one.
+// Worked examples of the check code; then every word of some small codes over Gf16 is corrected, and each answer held against all
+// codewords, one by one.
 #![tactic(auto)]
+
+mod codewords;
 
 use codes::{WORK_SYMBOLS, correct};
 use gf::{Field, Gf16, Refusal};
@@ -221,6 +224,7 @@ fn try_code(rt: &HostRuntime, symbols: usize, checks: usize) -> anyhow::Result<(
 }
 
 fn run(rt: &HostRuntime) -> anyhow::Result<()> {
+    codewords::print_all(rt)?;
     try_code(rt, 2, 1)?;
     try_code(rt, 3, 1)?;
     try_code(rt, 3, 2)?;

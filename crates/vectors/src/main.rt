@@ -1,13 +1,11 @@
 // Runs recordings and worked examples through the library, and prints what came out.
 #![tactic(auto)]
 
-mod codewords;
 mod examples;
 mod recordings;
 
 fn run(rt: &HostRuntime) -> anyhow::Result<()> {
     examples::print_all(rt)?;
-    codewords::print_all(rt)?;
     recordings::compare_all(rt)
 }
 
