@@ -1,5 +1,5 @@
 -- The header of a super frame in its block: the starts of the units, what is refused, and the units.
-use Rattle.std.specs.Prelude.{◌≡◌, ℕ, zero, suc, ◌+◌, ◌-◌, ◌*◌, ◌<◌, ◌≤◌, Bool, cond, not, ◌&&◌, ◌||◌, List, [], ◌∷◌, map, length, take, drop, is_some, Some, None, Ok, Err, Option, Result, ◌==◌, nat_le, nat_lt, slice_index, slice_index_or, slice_range}
+use Rattle.std.specs.Prelude.{◌≡◌, ℕ, zero, suc, ◌+◌, ◌-◌, ◌*◌, ◌<◌, ◌≤◌, Bool, cond, not, ◌&&◌, ◌||◌, List, [], ◌∷◌, map, length, take, drop, is_some, Some, None, Ok, Err, Option, Result, ◌==◌, nat_le, nat_lt, slice_index, slice_range}
 use Rattle.std.specs.Option.{unwrap_or}
 use Rattle.gf.specs.declared.refusal.Refusal.{Refusal}
 use Rattle.gf.specs.declared.refusal.Refusal.TheVariants.{Size, Buffer, Fire, Alignment, Starts, Index}
@@ -93,7 +93,7 @@ unit_at h n =
 -- the two bytes before the next start are the check of the bytes between
 abbrev pub check_fits : Header → List ℕ → ℕ → Bool
 check_fits h block n =
-    let begin = slice_index_or h.starts n 0 in
+    let begin = slice_index h.starts n in
     let end = slice_index h.starts (n + 1) - 2 in
     (unit_check (slice_range block begin end) == word block end)
 
@@ -104,6 +104,6 @@ good h block n =
 
 -- The units of a header stand one behind another from the header's end to the super frame's, each with a byte at least and its check.
 pub record Tiles (h : Header) : Type 0 where
-  pub first : slice_index_or h.starts 0 0 ≡ (layout h.parameters.dac h.parameters.sbr).header_length
+  pub first : slice_index h.starts 0 ≡ (layout h.parameters.dac h.parameters.sbr).header_length
   pub apart : (n : ℕ) → n < unit_count h → slice_index h.starts n + 3 ≤ slice_index h.starts (n + 1)
-  pub last : slice_index_or h.starts (unit_count h) 0 ≡ 110 * h.size
+  pub last : slice_index h.starts (unit_count h) ≡ 110 * h.size

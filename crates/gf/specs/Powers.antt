@@ -1,5 +1,5 @@
 -- The rows of k bits are a field where the powers of x go through all of them but zero, which the tables show.
-use Rattle.std.specs.Prelude.{◌≡◌, ℕ, zero, suc, ◌+◌, ◌*◌, ◌^◌, ◌<◌, ◌≤◌, true, T, List, [], ◌∷◌, ◌==◌, ◌≢◌, nat_eq, nat_lt, slice_index, slice_index_or}
+use Rattle.std.specs.Prelude.{◌≡◌, ℕ, zero, suc, ◌+◌, ◌*◌, ◌^◌, ◌<◌, ◌≤◌, true, T, List, [], ◌∷◌, ◌==◌, ◌≢◌, nat_eq, nat_lt, slice_index}
 use Rattle.std.proofs.Math.Path.{refl, sym, ap, ap₂}
 use Rattle.std.proofs.Common.{subst, ◌∙◌, add-suc, add-zero, add_comm, suc-add, zero-add, mul-zero, mul_comm, mul_assoc, le_of_suc-le-suc, not-suc-le-zero, T_not, pow_pos}
 use Rattle.std.proofs.Math.Nat.{mul-suc}
@@ -150,7 +150,7 @@ module _ (k : ℕ) (low : Bits k) (last : ℕ) (t : Tables) (s : Sound k low las
   zero-entry : (i : ℕ) → i ≤ suc last + suc last → bits k (slice_index t.exps (slice_index t.logs 0 + i)) ≡ zeros k
   unfolding entry
   zero-entry i h =
-      let z : slice_index_or t.logs 0 0 ≡ suc last + suc last = eqb→eq _ _ (below_at (entry last t.exps t.logs) (2 ^ k) s.entries 0 (pow_pos k)) in
+      let z : slice_index t.logs 0 ≡ suc last + suc last = eqb→eq _ _ (below_at (entry last t.exps t.logs) (2 ^ k) s.entries 0 (pow_pos k)) in
       let l : i < suc (suc last + suc last) = omega arith in
       ap (λ (n : ℕ). bits k (slice_index t.exps (n + i))) z
       ∙ ap (bits k) (eqb→eq _ _ (below_at (λ j. nat_eq (slice_index t.exps ((suc last + suc last) + j)) 0) (suc (suc last + suc last)) s.padding i l))

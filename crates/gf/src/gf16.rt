@@ -1,7 +1,7 @@
 // The field of 16 elements, by tables.
 ghost use Rattle.gf.specs.Bits.{Bits, bits};
 ghost use Rattle.gf.specs.Fields.{gf16};
-ghost use Rattle.gf.specs.FieldsLemmas.{laws16};
+ghost use Rattle.gf.specs.FieldLaws.{laws16};
 
 use super::field::Field;
 use super::tables::{EXPONENTS_16, INVERSES_16, POWERS_16};

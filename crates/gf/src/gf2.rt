@@ -1,7 +1,7 @@
 // The field of 2 elements.
 ghost use Rattle.gf.specs.Bits.{Bits, bits};
 ghost use Rattle.gf.specs.Fields.{gf2};
-ghost use Rattle.gf.specs.FieldsLemmas.{laws2};
+ghost use Rattle.gf.specs.FieldLaws.{laws2};
 
 use super::field::Field;
 

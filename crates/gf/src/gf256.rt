@@ -1,7 +1,7 @@
 // The field of 256 elements, by tables.
 ghost use Rattle.gf.specs.Bits.{Bits, bits};
 ghost use Rattle.gf.specs.Fields.{gf256};
-ghost use Rattle.gf.specs.FieldsLemmas.{laws256};
+ghost use Rattle.gf.specs.FieldLaws.{laws256};
 
 use super::field::Field;
 use super::products::ROOT_PRODUCTS_256;

@@ -1,7 +1,7 @@
 use Rattle.std.proofs.Common.{◌%◌, ◌∙◌, ap₂, arith}
 use Rattle.gf.specs.Fields.{low16, gf16}
 use Rattle.gf.specs.Powers.{product, log-le}
-use Rattle.gf.specs.FieldsLemmas.{tables16, sound16}
+use Rattle.gf.specs.FieldLaws.{tables16, sound16}
 use Rattle.gf.specs.Numbers.{bits-mod}
 use Rattle.gf.proofs.gf16.Gf16Field.mul.Goals as goal
 

@@ -2,7 +2,7 @@ use Rattle.std.proofs.Common.{◌%◌, ap, ◌∙◌, arith}
 use Rattle.gf.specs.Theory.{pow}
 use Rattle.gf.specs.Fields.{low16, gf16}
 use Rattle.gf.specs.Powers.{root-product, log-le}
-use Rattle.gf.specs.FieldsLemmas.{tables16, sound16}
+use Rattle.gf.specs.FieldLaws.{tables16, sound16}
 use Rattle.gf.specs.Numbers.{bits-mod}
 use Rattle.gf.proofs.gf16.Gf16Field.times_root_power.Goals as goal
 

@@ -1,7 +1,7 @@
 use Rattle.std.proofs.Common.{arith}
 use Rattle.gf.specs.Fields.{low256}
 use Rattle.gf.specs.Powers.{inverted}
-use Rattle.gf.specs.FieldsLemmas.{tables256, sound256}
+use Rattle.gf.specs.FieldLaws.{tables256, sound256}
 use Rattle.gf.proofs.gf256.Gf256Field.inv.Goals as goal
 
 pub returns : goal.returns

@@ -1,7 +1,7 @@
 use Rattle.std.proofs.Common.{arith}
 use Rattle.gf.specs.Fields.{low256}
 use Rattle.gf.specs.Powers.{product, log-le}
-use Rattle.gf.specs.FieldsLemmas.{tables256, sound256}
+use Rattle.gf.specs.FieldLaws.{tables256, sound256}
 use Rattle.gf.proofs.gf256.Gf256Field.mul.Goals as goal
 
 pub bounds-a : goal.bounds-a

@@ -3,7 +3,7 @@ use Rattle.gf.specs.Bits.{bits}
 use Rattle.gf.specs.Fields.{low256}
 use Rattle.gf.specs.Computed.{root_products_at}
 use Rattle.gf.specs.Powers.{root-product}
-use Rattle.gf.specs.FieldsLemmas.{tables256, sound256, root_products256}
+use Rattle.gf.specs.FieldLaws.{tables256, sound256, root_products256}
 use Rattle.gf.proofs.gf256.Gf256Field.times_root_power.Goals as goal
 
 pub returns : goal.returns
