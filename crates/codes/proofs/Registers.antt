@@ -36,12 +36,12 @@ module _ {E : Type 0} (z : E) where
   whole new old n h k = ap₂ ◌++◌ (take_all n new h) (drop_all n old k) ∙ append-nil new
 
 module _ {E : Type 0} (f : Operations E) where
-  pub get_d_over : (p q : List E) (j : ℕ) → j < length p → j < length q
+  pub get_or_over : (p q : List E) (j : ℕ) → j < length p → j < length q
       → get_or (over f p q) j f.zero ≡ f.add (get_or p j f.zero) (get_or q j f.zero)
-  get_d_over [] q j h k = absurd (omega arith)
-  get_d_over (a ∷ p) [] j h k = absurd (omega arith)
-  get_d_over (a ∷ p) (b ∷ q) zero h k = refl
-  get_d_over (a ∷ p) (b ∷ q) (suc j) h k = get_d_over p q j (omega arith) (omega arith)
+  get_or_over [] q j h k = absurd (omega arith)
+  get_or_over (a ∷ p) [] j h k = absurd (omega arith)
+  get_or_over (a ∷ p) (b ∷ q) zero h k = refl
+  get_or_over (a ∷ p) (b ∷ q) (suc j) h k = get_or_over p q j (omega arith) (omega arith)
 
   multiple_at : (c : E) (d : List E) (j : ℕ) → j < length d
       → get_or (negs f (scale f c d)) j f.zero ≡ f.neg (f.mul c (get_or d j f.zero))
@@ -63,7 +63,7 @@ module _ {E : Type 0} (f : Operations E) where
     stepped-cons_at : (j : ℕ) → j < length d
         → get_or (stepped f d (c ∷ r) m) j f.zero ≡ f.add (get_or (r ++ (m ∷ [])) j f.zero) (f.neg (f.mul c (get_or d j f.zero)))
     stepped-cons_at j h =
-        get_d_over (r ++ (m ∷ [])) (negs f (scale f c d)) j (omega (arith, length_in r m)) (omega (arith, length-multiple c d))
+        get_or_over (r ++ (m ∷ [])) (negs f (scale f c d)) j (omega (arith, length_in r m)) (omega (arith, length-multiple c d))
         ∙ ap (f.add (get_or (r ++ (m ∷ [])) j f.zero)) (multiple_at c d j h)
 
   pub length-stepped : (d r : List E) (m : E) → length r ≡ length d → 0 < length d → length (stepped f d r m) ≡ length d

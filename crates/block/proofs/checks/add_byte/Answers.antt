@@ -6,7 +6,7 @@ use Rattle.gf.specs.Bits.{bits, plus}
 use Rattle.gf.specs.Fields.{gf2}
 use Rattle.gf.specs.declared.gf2.Gf2.{Gf2}
 use Rattle.codes.specs.Polynomials.{over}
-use Rattle.codes.proofs.Registers.{advance, get_d_over}
+use Rattle.codes.proofs.Registers.{advance, get_or_over}
 use Rattle.block.specs.Checks.{byte_bits, meanings}
 use Rattle.block.proofs.Dividing.{ahead_here, sum-written, length-byte, length-sum}
 use Rattle.block.proofs.checks.add_byte.Goals as goal
@@ -29,7 +29,7 @@ loop-i-preserved c =
           ∙ ap (λ xs. get_or xs i gf2.zero) c.loop-i.invariant.1 ∙ ahead_here new old i sized (omega arith))
           (sym (get_or-map mean c.bits_of-bits.result i (record { 0 = 0 }) gf2.zero (omega (arith, length-map c.bits_of-bits.result mean, ap length c.bits_of-bits.ensures, length-byte c.args.byte)))
           ∙ ap (λ xs. get_or xs i gf2.zero) c.bits_of-bits.ensures)
-          ∙ sym (get_d_over gf2 old byte i (omega arith) (omega (arith, length-byte c.args.byte))))
+          ∙ sym (get_or_over gf2 old byte i (omega arith) (omega (arith, length-byte c.args.byte))))
           ∙ advance gf2.zero new old i sized (omega arith),
     )
 
