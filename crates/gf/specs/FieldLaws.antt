@@ -1,4 +1,5 @@
--- The laws of the three fields: their tables are computed from the polynomial, and pass the tests.
+-- The laws of the three fields: their tables are computed from the polynomial, and pass the tests. Each field has its own lines, since the
+-- checker computes tables and tests only at numbers.
 use Rattle.std.specs.Prelude.{ℕ, List}
 use Rattle.gf.specs.Theory.{Laws}
 use Rattle.gf.specs.Bits.{bits, number, zeros, plus, equal, only, shift, out, times_x, times_row, times}

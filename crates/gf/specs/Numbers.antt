@@ -1,15 +1,15 @@
 -- Numbers read as rows of bits: what xor, and, a remainder by 2 ^ k and a test for equality do to the bits.
-use Rattle.std.specs.Prelude.{◌≡◌, ℕ, zero, suc, ◌+◌, ◌*◌, ◌/◌, ◌%◌, ◌^◌, ◌<◌, min, Bool, true, false, cond, ◌&&◌, T, ◌==◌, bit_and, bit_xor, nat_eq, refl}
-use Rattle.std.proofs.Common.{sym, ap, ap₂, subst, ◌∙◌, mod-lt, mod-eq_of_lt, pow-suc, not-suc-le-zero, le_of_suc-le-suc, eqb→eq, lit<, pow_pos}
+use Rattle.std.specs.Prelude.{◌≡◌, ℕ, zero, suc, ◌+◌, ◌*◌, ◌/◌, ◌%◌, ◌^◌, ◌<◌, Bool, true, false, cond, ◌&&◌, ◌==◌, bit_and, bit_xor, nat_eq, refl}
+use Rattle.std.proofs.Common.{sym, ap, ap₂, subst, ◌∙◌, mod-lt, mod-eq_of_lt, pow-suc, not-suc-le-zero, le_of_suc-le-suc, eqb-true, eq-eqb, lit<, pow_pos}
 use Rattle.std.proofs.Math.Nat.{mod-one}
 use Rattle.std.proofs.Math.Arith.{digits_div, digits_mod, digits_lt, mod-mul}
-use Rattle.std.specs.Int.Bits.{xor_step, and_step, differ as differs}
-use Rattle.std.proofs.Math.Dec.{eqb_refl}
+use Rattle.std.specs.Bool.{passes}
+use Rattle.std.specs.Cmp.{both_ways}
+use Rattle.std.proofs.lemmas.Nat.{and_mod, xor_mod, xor_shr}
 use Rattle.gf.specs.Bits.{Bits, differ, bits, number, zeros, plus, equal, only, shift, out, times_x, times_row, times}
 use Rattle.gf.specs.Theory.{pow}
 use Rattle.gf.specs.Fields.{low2, gf2}
 use Rattle.gf.specs.Ring.{pair, equal_yes, equal_no}
-use Rattle.gf.specs.Tests.{T_true}
 
 bit : (b : Bool) → cond b 1 0 < 2
 bit true = lit< tt
@@ -40,26 +40,18 @@ by_bit P p q zero h = p
 by_bit P p q (suc zero) h = q
 by_bit P p q (suc (suc x)) h = absurd (not-suc-le-zero (le_of_suc-le-suc (le_of_suc-le-suc h)))
 
-differs-lt : (x y : ℕ) → x < 2 → y < 2 → differs x y < 2
-differs-lt x y hx hy =
-    by_bit (λ x. differs x y < 2) (by_bit (λ y. differs 0 y < 2) (lit< tt) (lit< tt) y hy)
-    (by_bit (λ y. differs 1 y < 2) (lit< tt) (lit< tt) y hy) x hx
-
-differs-bit : (x y : ℕ) → x < 2 → y < 2 → (differs x y == 1) ≡ differ (x == 1) (y == 1)
-differs-bit x y hx hy =
-    by_bit (λ x. (differs x y == 1) ≡ differ (x == 1) (y == 1))
-    (by_bit (λ y. (differs 0 y == 1) ≡ differ (0 == 1) (y == 1)) refl refl y hy)
-    (by_bit (λ y. (differs 1 y == 1) ≡ differ (1 == 1) (y == 1)) refl refl y hy) x hx
+xor-bit : (x y : ℕ) → x < 2 → y < 2 → (bit_xor x y == 1) ≡ differ (x == 1) (y == 1)
+xor-bit x y hx hy =
+    by_bit (λ x. (bit_xor x y == 1) ≡ differ (x == 1) (y == 1))
+    (by_bit (λ y. (bit_xor 0 y == 1) ≡ differ (0 == 1) (y == 1)) refl refl y hy)
+    (by_bit (λ y. (bit_xor 1 y == 1) ≡ differ (1 == 1) (y == 1)) refl refl y hy) x hx
 
 pub bits-xor : (k a b : ℕ) → bits k (bit_xor a b) ≡ plus k (bits k a) (bits k b)
 unfolding bits plus
 bits-xor zero a b = refl
 bits-xor (suc k) a b =
-    let lt = differs-lt (a % 2) (b % 2) (bit-lt a) (bit-lt b) in
-    pair
-    (ap (λ (m : ℕ). nat_eq (m % 2) 1) (xor_step a b) ∙ ap (λ (m : ℕ). nat_eq m 1) (digits_mod (bit_xor (a / 2) (b / 2)) lt)
-    ∙ differs-bit (a % 2) (b % 2) (bit-lt a) (bit-lt b))
-    (ap (λ (m : ℕ). bits k (m / 2)) (xor_step a b) ∙ ap (bits k) (digits_div (bit_xor (a / 2) (b / 2)) lt) ∙ bits-xor k (a / 2) (b / 2))
+    pair (ap (λ (m : ℕ). nat_eq m 1) (xor_mod a b 1) ∙ xor-bit (a % 2) (b % 2) (bit-lt a) (bit-lt b))
+    (ap (bits k) (xor_shr a b 1) ∙ bits-xor k (a / 2) (b / 2))
 
 low : (k n : ℕ) → n % 2 ^ suc k ≡ (n / 2 % 2 ^ k) * 2 + n % 2
 low k n = ap (λ (m : ℕ). n % m) (pow-suc 2 k) ∙ mod-mul n (pow_pos k) (lit< tt)
@@ -80,26 +72,20 @@ number-bits zero n = sym (mod-one n)
 number-bits (suc k) n =
     ap₂ (λ (q r : ℕ). q * 2 + r) (number-bits k (n / 2)) (number_bit (n % 2) (bit-lt n)) ∙ sym (low k n)
 
-same_truth : (x y : Bool) → (T x → T y) → (T y → T x) → x ≡ y
-same_truth true true f g = refl
-same_truth true false f g = absurd (f tt)
-same_truth false true f g = absurd (g tt)
-same_truth false false f g = refl
-
 -- two numbers mean one row of bits where they leave the same remainder
 pub bits-equal : (k a b : ℕ) → (a % 2 ^ k == b % 2 ^ k) ≡ equal k (bits k a) (bits k b)
 bits-equal k a b =
-    same_truth (a % 2 ^ k == b % 2 ^ k) (equal k (bits k a) (bits k b))
-    (λ t. let e = sym (bits-mod k a) ∙ ap (bits k) (eqb→eq (a % 2 ^ k) (b % 2 ^ k) t) ∙ bits-mod k b in
-    T_true (equal k (bits k a) (bits k b)) (subst (λ v. equal k (bits k a) v ≡ true) e (equal_yes k (bits k a))))
-    (λ t. let e = sym (number-bits k a) ∙ ap (number k) (equal_no k (bits k a) (bits k b) t) ∙ number-bits k b in
-    subst (λ (m : ℕ). T (a % 2 ^ k == m)) e (eqb_refl (a % 2 ^ k)))
+    both_ways (a % 2 ^ k == b % 2 ^ k) (equal k (bits k a) (bits k b))
+    (λ t. let e = sym (bits-mod k a) ∙ ap (bits k) (eqb-true (a % 2 ^ k) (b % 2 ^ k) t) ∙ bits-mod k b in
+    subst (λ v. equal k (bits k a) v ≡ true) e (equal_yes k (bits k a)))
+    (λ t. let e = sym (number-bits k a) ∙ ap (number k) (equal_no k (bits k a) (bits k b) (passes _ t)) ∙ number-bits k b in
+    eq-eqb (a % 2 ^ k) (b % 2 ^ k) e)
 
-and-bit : (x y : ℕ) → x < 2 → y < 2 → (min x y < 2) × ((min x y == 1) ≡ (x == 1 && y == 1))
+and-bit : (x y : ℕ) → x < 2 → y < 2 → (bit_and x y == 1) ≡ (x == 1 && y == 1)
 and-bit x y hx hy =
-    by_bit (λ x. (min x y < 2) × ((min x y == 1) ≡ (x == 1 && y == 1)))
-    (by_bit (λ y. (min 0 y < 2) × ((min 0 y == 1) ≡ (0 == 1 && y == 1))) (lit< tt, refl) (lit< tt, refl) y hy)
-    (by_bit (λ y. (min 1 y < 2) × ((min 1 y == 1) ≡ (1 == 1 && y == 1))) (lit< tt, refl) (lit< tt, refl) y hy) x hx
+    by_bit (λ x. (bit_and x y == 1) ≡ (x == 1 && y == 1))
+    (by_bit (λ y. (bit_and 0 y == 1) ≡ (0 == 1 && y == 1)) refl refl y hy)
+    (by_bit (λ y. (bit_and 1 y == 1) ≡ (1 == 1 && y == 1)) refl refl y hy) x hx
 
 times-bit : (x y : Bool) → ◌≡◌ {A = Bits 1} (x && y, tt) (times 1 low2 (x, tt) (y, tt))
 unfolding bits zeros plus only shift out times_x times_row times low2
@@ -111,8 +97,7 @@ times-bit false false = refl
 pub bits-and : (a b : ℕ) → bits 1 (bit_and a b) ≡ times 1 low2 (bits 1 a) (bits 1 b)
 unfolding bits
 bits-and a b =
-    let m = and-bit (a % 2) (b % 2) (bit-lt a) (bit-lt b) in
-    ap (bits 1) (and_step a b) ∙ pair (ap (λ (m : ℕ). nat_eq m 1) (digits_mod (bit_and (a / 2) (b / 2)) m.0) ∙ m.1) refl
+    pair (ap (λ (m : ℕ). nat_eq m 1) (and_mod a b 1) ∙ and-bit (a % 2) (b % 2) (bit-lt a) (bit-lt b)) refl
     ∙ times-bit (a % 2 == 1) (b % 2 == 1)
 
 own_inverse : (x : Bool) → ◌≡◌ {A = Bits 1} (x, tt) (gf2.inv (x, tt))

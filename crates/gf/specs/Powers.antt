@@ -5,10 +5,11 @@ use Rattle.std.proofs.Common.{subst, ◌∙◌, add-suc, add-zero, add_comm, suc
 use Rattle.std.proofs.Math.Nat.{mul-suc}
 use native.Mathlib.Omega.{arith}
 use Rattle.std.proofs.Math.Dec.{eqb→eq, ltb→lt}
+use Rattle.std.specs.Bool.{passes}
 use Rattle.gf.specs.Theory.{Laws, power}
 use Rattle.gf.specs.Bits.{Bits, bits, number, zeros, equal, times_x, times}
 use Rattle.gf.specs.Fields.{operations}
-use Rattle.gf.specs.Tests.{T_true, and_left, and_right, below_at}
+use Rattle.gf.specs.Tests.{and_left, and_right, below_at}
 use Rattle.gf.specs.Numbers.{bits-number, number_lt}
 use Rattle.gf.specs.Computed.{walk, entry, turned, Tables, Sound}
 use Rattle.gf.specs.Ring.{plus_assoc, plus_comm, plus-zeros, plus_self, equal_yes, equal_no, times-plus, times-zeros, times-times_x, times_comm, times_assoc}
@@ -133,7 +134,7 @@ module _ (k : ℕ) (low : Bits k) (last : ℕ) (t : Tables) (s : Sound k low las
       sym (up-log i hi) ∙ ap (λ u. slice_index t.logs (number k u)) (sym (root-up i) ∙ e ∙ root-up j) ∙ up-log j hj
 
   pub unequal : bits k 1 ≡ zeros k → ⊥
-  unequal e = T_not (equal k (bits k 1) (zeros k)) s.unequal (T_true _ (subst (λ w. equal k (bits k 1) w ≡ true) e (equal_yes k (bits k 1))))
+  unequal e = T_not (equal k (bits k 1) (zeros k)) s.unequal (passes _ (subst (λ w. equal k (bits k 1) w ≡ true) e (equal_yes k (bits k 1))))
 
   -- what the tables are good for: the product by two exponents, and an inverse by a table of inverses
 
@@ -208,6 +209,6 @@ module _ (k : ℕ) (low : Bits k) (last : ℕ) (t : Tables) (s : Sound k low las
     mul-inv = inverse-right;
     inv-zero = inverse-zeros;
     equal_yes = λ u v e. subst (λ w. equal k u w ≡ true) e (equal_yes k u);
-    equal_no = λ u v e. equal_no k u v (T_true (equal k u v) e);
+    equal_no = λ u v e. equal_no k u v (passes (equal k u v) e);
     powers-differ = differ-powers;
   }

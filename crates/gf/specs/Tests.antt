@@ -1,9 +1,6 @@
 -- Tests that the checker computes, and what they say.
-use Rattle.std.specs.Prelude.{◌≡◌, ℕ, zero, suc, ◌<◌, Bool, true, false, ◌&&◌, T}
+use Rattle.std.specs.Prelude.{ℕ, zero, suc, ◌<◌, Bool, true, false, ◌&&◌, T}
 use Rattle.std.proofs.Common.{sym, subst, ⊎_elim, le_of_suc-le-suc, not-suc-le-zero, eq-or-lt_of_le}
-
-pub T_true : (b : Bool) → b ≡ true → T b
-T_true b e = subst T (sym e) tt
 
 pub and_left : (a b : Bool) → T (a && b) → T a
 and_left true b t = tt

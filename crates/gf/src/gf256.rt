@@ -1,10 +1,11 @@
 // The field of 256 elements, by tables.
-ghost use Rattle.gf.specs.Bits.{Bits, bits};
-ghost use Rattle.gf.specs.Fields.{gf256};
-ghost use Rattle.gf.specs.FieldLaws.{laws256};
+ghost use Rattle.gf.specs.Bits.{bits};
+ghost use Rattle.gf.specs.Fields.{low256};
+ghost use Rattle.gf.specs.FieldLaws.{laws256, tables256, sound256};
 
-use super::field::Field;
+use super::binary::BinaryField;
 use super::products::ROOT_PRODUCTS_256;
+use super::tabled::TabledField;
 use super::tables::{EXPONENTS_256, INVERSES_256, POWERS_256};
 
 // A symbol whose eight bits are the element. It lies in memory as its byte, so that C can lend rows of bytes.
@@ -12,54 +13,53 @@ use super::tables::{EXPONENTS_256, INVERSES_256, POWERS_256};
 #[repr(C)]
 pub struct Gf256(pub u8);
 
-impl Field for Gf256 {
-    ghost Element = { Bits 8 };
+impl BinaryField for Gf256 {
+    ghost degree = { 8 };
 
-    ghost field = { gf256 };
+    ghost low = { low256 };
+
+    ghost last = { 254 };
 
     ghost mean = { λ s. bits 8 s.0 };
 
     ghost laws = { laws256 };
 
-    fn zero() -> Gf256 {
-        Gf256(0)
+    fn from_byte(byte: u8) -> Gf256 {
+        Gf256(byte)
     }
 
-    fn one() -> Gf256 {
-        Gf256(1)
+    fn byte(self) -> u8 {
+        self.0
+    }
+
+    fn order() -> usize {
+        256
     }
 
     fn root() -> Gf256 {
         Gf256(2)
     }
 
-    fn reach() -> usize {
-        255
+    fn root_product(self, exponent: usize) -> Gf256 {
+        Gf256(ROOT_PRODUCTS_256[exponent % 16][self.element()])
+    }
+}
+
+#[tactic(auto, unfolding(crate::specs::FieldLaws::tables256))]
+impl TabledField for Gf256 {
+    ghost tables = { tables256 };
+
+    ghost sound = { sound256 };
+
+    fn powers() -> &'static [u8] {
+        &POWERS_256
     }
 
-    fn add(self, other: Gf256) -> Gf256 {
-        Gf256(self.0 ^ other.0)
+    fn exponents() -> &'static [u16] {
+        &EXPONENTS_256
     }
 
-    fn neg(self) -> Gf256 {
-        self
-    }
-
-    fn mul(self, other: Gf256) -> Gf256 {
-        let a = EXPONENTS_256[self.0 as usize] as usize;
-        let b = EXPONENTS_256[other.0 as usize] as usize;
-        Gf256(POWERS_256[a + b])
-    }
-
-    fn inv(self) -> Gf256 {
-        Gf256(INVERSES_256[self.0 as usize])
-    }
-
-    fn same(self, other: Gf256) -> bool {
-        self.0 == other.0
-    }
-
-    fn times_root_power(self, exponent: usize) -> Gf256 {
-        Gf256(ROOT_PRODUCTS_256[exponent % 16][self.0 as usize])
+    fn inverses() -> &'static [u8] {
+        &INVERSES_256
     }
 }

@@ -8,7 +8,7 @@ pub const POWERS_16: [u8; 61] = [
 ];
 
 // The exponent of each element, and at 0 the place of the first zero in the powers.
-pub const EXPONENTS_16: [u8; 16] = [30, 0, 1, 4, 2, 8, 5, 10, 3, 14, 9, 7, 6, 13, 11, 12];
+pub const EXPONENTS_16: [u16; 16] = [30, 0, 1, 4, 2, 8, 5, 10, 3, 14, 9, 7, 6, 13, 11, 12];
 
 // The inverses, and 0 at 0.
 pub const INVERSES_16: [u8; 16] = [0, 1, 9, 14, 13, 11, 7, 6, 15, 2, 12, 5, 10, 4, 3, 8];

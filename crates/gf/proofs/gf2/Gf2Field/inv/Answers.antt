@@ -1,5 +1,0 @@
-use Rattle.gf.specs.Numbers.{bit-inverse}
-use Rattle.gf.proofs.gf2.Gf2Field.inv.Goals as goal
-
-pub returns : goal.returns
-returns c = bit-inverse c.args.self.0

@@ -1,5 +1,0 @@
-use Rattle.gf.specs.Numbers.{bits-and}
-use Rattle.gf.proofs.gf2.Gf2Field.mul.Goals as goal
-
-pub returns : goal.returns
-returns c = bits-and c.args.self.0 c.args.other.0

@@ -1,6 +1,0 @@
-use Rattle.std.proofs.Common.{◌%◌}
-use Rattle.gf.specs.Numbers.{root-power-one}
-use Rattle.gf.proofs.gf2.Gf2Field.times_root_power.Goals as goal
-
-pub returns : goal.returns
-returns c = root-power-one c.args.self.0 (c.args._exponent % 16)
