@@ -12,25 +12,12 @@ four true true false t e = absurd (clash e)
 four true false c t e = absurd (clash e)
 four false b c t e = absurd (clash e)
 
--- the first three fail
-three : (a b c t : Bool) → (a ≡ true → b ≡ true → c ≡ true → ⊥) → (a && (b && (c && t))) ≡ false
-three true true true t no-shape = absurd (no-shape refl refl refl)
-three true true false t no-shape = refl
-three true false c t no-shape = refl
-three false b c t no-shape = refl
-
 module _ {E : Type 0} (f : Operations E) (places : ℕ) (w : List E) where
   -- the sizes are right: the leading symbol decides
   pub admitted_by_lead : 1 ≤ places → places ≤ 16 → length w ≡ places + 1 → f.equal (get_or w 0 f.zero) f.one ≡ admitted f w places
   admitted_by_lead low high e =
       sym (ap₂ (λ a b. a && (b && (eqb (length w) (places + 1) && f.equal (get_or w 0 f.zero) f.one))) (le-leb 1 places low) (le-leb places 16 high)
       ∙ ap (λ c. c && f.equal (get_or w 0 f.zero) f.one) (eq-eqb (length w) (places + 1) e))
-
-  -- the sizes are wrong
-  pub admitted_no : (1 ≤ places → places ≤ 16 → length w ≡ places + 1 → ⊥) → admitted f w places ≡ false
-  admitted_no no-shape =
-      three (leb 1 places) (leb places 16) (eqb (length w) (places + 1)) (f.equal (get_or w 0 f.zero) f.one)
-      (λ a b c. no-shape (leb-true 1 places a) (leb-true places 16 b) (eqb-true (length w) (places + 1) c))
 
 -- an admitted divisor is one and as many symbols as there are places
 pub admitted_begins : {E : Type 0} {f : Operations E} (l : Laws f) (places : ℕ) (w : List E) → admitted f w places ≡ true

@@ -40,10 +40,6 @@ module _ {E : Type 0} {f : Operations E} (l : Laws f) where
       ap (f.add (f.mul y (pow f x i))) (power_sum_next ys xs k i (omega arith) (omega arith))
       ∙ sym (l.add_assoc (f.mul y (pow f x i)) (power_sum f (take k ys) (take k xs) i) (f.mul (get_or ys k f.zero) (pow f (get_or xs k f.zero) i)))
 
-  -- no error is off yet
-  pub rest_none : (n : ℕ) (s : ℕ → E) → Rest f n [] [] s s
-  rest_none n s i h = ring₁ l (λ s. s ≐ s ⊕ ⊝ O) tt (s i)
-
   -- one error more is off
   pub rest_more : (n : ℕ) (ys xs : List E) (k : ℕ) (s u v : ℕ → E) → k < length ys → k < length xs
       → Rest f n (take k ys) (take k xs) s u

@@ -2,7 +2,7 @@
 use Rattle.std.proofs.Common.{◌≡◌, ℕ, zero, suc, ◌+◌, ◌<◌, ◌≤◌, true, List, [], ◌∷◌, map, length, get_or, sym, refl, ap, ◌∙◌, ap₂, ⊎_elim, add-one, arith, ext_get_or}
 use lib.ListN.{length-map}
 use Rattle.std.proofs.lemmas.List.{get_or_past}
-use Rattle.std.proofs.lemmas.Bool.{cases_eq}
+use Rattle.std.proofs.lemmas.Bool.{cases_lt}
 use Rattle.gf.specs.Theory.{Operations, Laws, pow}
 use Rattle.codes.specs.Polynomials.{over, times}
 use Rattle.codes.specs.Division.{admitted}
@@ -10,8 +10,9 @@ use Rattle.codes.specs.Codewords.{generator}
 use Rattle.codes.specs.Elimination.{entries}
 use Rattle.codes.specs.Filling.{Holds, Between}
 use Rattle.codes.proofs.Admission.{admitted_by_lead}
+use Rattle.codes.proofs.Cells.{one_more}
 use Rattle.codes.proofs.Lists.{length-times}
-use Rattle.codes.proofs.Ring.{O, I, ◌⊕◌, ◌⊗◌, ⊝◌, ◌≐◌, ring₁, ring₃}
+use Rattle.codes.proofs.Ring.{O, I, ◌⊕◌, ◌⊗◌, ⊝◌, ◌≐◌, ring₁, ring₂, ring₃}
 use Rattle.codes.proofs.Words.{linear, generator-cons}
 
 module _ {E : Type 0} (f : Operations E) where
@@ -52,39 +53,36 @@ module _ {E : Type 0} {f : Operations E} (l : Laws f) where
   generator_past : (r j : ℕ) → r < j → get_or (generator f r) j f.zero ≡ f.zero
   generator_past r j h = get_or_past (generator f r) j f.zero (omega (arith, length-generator r))
 
-  generator_first : (r : ℕ) → get_or (generator f (r + 1)) 0 f.zero ≡ get_or (generator f r) 0 f.zero
-  generator_first r = ap (λ (n : ℕ). get_or (generator f n) 0 f.zero) (add-one r) ∙ factor_first (pow f f.root r) (generator f r)
+  -- each coefficient of the next generator, from this one and the one before
+  generator_at : (r j : ℕ) → get_or (generator f (r + 1)) j f.zero
+      ≡ f.add (get_or (generator f r) j f.zero) (f.neg (f.mul (get_or (f.zero ∷ generator f r) j f.zero) (pow f f.root r)))
+  generator_at r j = ap (λ (n : ℕ). get_or (generator f n) j f.zero) (add-one r) ∙ by j
+    where
+      b : E
+      b = pow f f.root r
 
-  generator_later : (r k : ℕ) → get_or (generator f (r + 1)) (k + 1) f.zero
-      ≡ f.add (get_or (generator f r) (k + 1) f.zero) (f.neg (f.mul (get_or (generator f r) k f.zero) (pow f f.root r)))
-  generator_later r k =
-      ap₂ (λ (n m : ℕ). get_or (generator f n) m f.zero) (add-one r) (add-one k)
-      ∙ factor_later (pow f f.root r) (generator f r) k
-      ∙ ap (λ (m : ℕ). f.add (get_or (generator f r) m f.zero) (f.neg (f.mul (get_or (generator f r) k f.zero) (pow f f.root r)))) (sym (add-one k))
+      by : (j : ℕ) → get_or (generator f (suc r)) j f.zero
+          ≡ f.add (get_or (generator f r) j f.zero) (f.neg (f.mul (get_or (f.zero ∷ generator f r) j f.zero) b))
+      by zero = factor_first b (generator f r) ∙ ring₂ l (λ a b. a ≐ a ⊕ ⊝ (O ⊗ b)) tt (get_or (generator f r) 0 f.zero) b
+      by (suc k) = factor_later b (generator f r) k
 
   -- the loop that takes a factor in
 
-  pub factor_start : (r : ℕ) (u : ℕ → E) → Holds f (generator f r) u → Between f (r + 1) (generator f r) (generator f (r + 1)) u
-  factor_start r u h = record {
-    low = λ j k. h j;
-    high = λ j k. h j ∙ generator_past r j (omega arith) ∙ sym (generator_past (r + 1) j k);
+  pub factor_more : (r k : ℕ) (u v : ℕ → E) (x y : E) → Between f k (generator f r) (generator f (r + 1)) x u
+      → v k ≡ f.add (u k) (f.neg (f.mul x (pow f f.root r))) → ((j : ℕ) → (j ≡ k → ⊥) → v j ≡ u j) → y ≡ u k
+      → Between f (k + 1) (generator f r) (generator f (r + 1)) y v
+  factor_more r k u v x y s here other e = record {
+    low = one_more (λ j. v j ≡ get_or (generator f (r + 1)) j f.zero) k
+        (λ j h. other j (λ q. omega arith) ∙ s.low j h)
+        (here ∙ ap₂ (λ a c. f.add a (f.neg (f.mul c (pow f f.root r)))) (s.high k (omega arith)) s.before ∙ sym (generator_at r k));
+    high = λ j h. other j (λ q. omega arith) ∙ s.high j (omega arith);
+    before = e ∙ s.high k (omega arith) ∙ ap (λ (m : ℕ). get_or (f.zero ∷ generator f r) m f.zero) (sym (add-one k));
   }
 
-  pub factor_more : (r k : ℕ) (u v : ℕ → E) → Between f (k + 1) (generator f r) (generator f (r + 1)) u
-      → v (k + 1) ≡ f.add (u (k + 1)) (f.neg (f.mul (u k) (pow f f.root r))) → ((j : ℕ) → (j ≡ k + 1 → ⊥) → v j ≡ u j)
-      → Between f k (generator f r) (generator f (r + 1)) v
-  factor_more r k u v s here other = record {
-    low = λ j h. other j (λ e. omega arith) ∙ s.low j (omega arith);
-    high = λ j h. ⊎_elim
-        (λ (e : j ≡ k + 1). ap v e ∙ here
-        ∙ ap₂ (λ x y. f.add x (f.neg (f.mul y (pow f f.root r)))) (s.low (k + 1) (omega arith)) (s.low k (omega arith))
-        ∙ sym (generator_later r k) ∙ ap (λ (m : ℕ). get_or (generator f (r + 1)) m f.zero) (sym e))
-        (λ (d : j ≡ k + 1 → ⊥). other j d ∙ s.high j (omega (arith, d))) (cases_eq j (k + 1));
-  }
-
-  pub factor_end : (r : ℕ) (u : ℕ → E) → Between f 0 (generator f r) (generator f (r + 1)) u → Holds f (generator f (r + 1)) u
-  factor_end r u s zero = s.low 0 (omega arith) ∙ sym (generator_first r)
-  factor_end r u s (suc j) = s.high (suc j) (omega arith)
+  pub factor_end : (r n : ℕ) (u : ℕ → E) (x : E) → r + 1 < n → Between f n (generator f r) (generator f (r + 1)) x u → Holds f (generator f (r + 1)) u
+  factor_end r n u x h s j =
+      ⊎_elim (λ (k : j < n). s.low j k)
+      (λ (k : n ≤ j). s.high j k ∙ generator_past r j (omega arith) ∙ sym (generator_past (r + 1) j (omega arith))) (cases_lt j n)
 
   -- places that hold the generator, as many as it has coefficients
   pub generated : {S : Type 0} (mean : S → E) (xs : List S) (r : ℕ) → length xs ≡ r + 1 → Holds f (generator f r) (entries f mean xs)

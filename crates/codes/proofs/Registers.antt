@@ -1,7 +1,7 @@
 -- One step of a division in place: what stands at each place after it, and how the places are written one by one.
 use Rattle.std.proofs.Common.{◌≡◌, ℕ, zero, suc, ◌+◌, ◌<◌, ◌≤◌, List, [], ◌∷◌, ◌++◌, map, length, get_or, take, drop, set, sym, refl, ap, ◌∙◌, ap₂, append-nil, add-zero, add-one, arith, length-append, length-take-le, get_or-drop, take_all, drop-cons, take-suc, get_or-append-add}
 use lib.ListN.{length-map}
-use lib.Seq.{append_snoc, set_at, get_or_at}
+use lib.Seq.{append_snoc, map-set, set_at, get_or_at}
 use Rattle.std.proofs.lemmas.List.{get_or-map, get_or_append_left, drop_all}
 use Rattle.gf.specs.Theory.{Operations}
 use Rattle.codes.specs.Polynomials.{scale, negs, over}
@@ -92,3 +92,13 @@ module _ {E : Type 0} (f : Operations E) where
   pub read : {S : Type 0} (mean : S → E) (xs : List S) (j : ℕ) (x : S) → j < length xs → x ≡ get_or xs j x
       → mean x ≡ get_or (map mean xs) j f.zero
   read mean xs j x h e = ap mean e ∙ sym (get_or-map mean xs j x f.zero h)
+
+  -- the next place is written, from what it was
+  pub next_written : {S : Type 0} (mean : S → E) (xs : List S) (new old : List E) (j : ℕ) (d x : S) → length new ≡ length old → length xs ≡ length old
+      → j < length xs → map mean xs ≡ take j new ++ drop j old → (mean (get_or xs j d) ≡ get_or old j f.zero → mean x ≡ get_or new j f.zero)
+      → map mean (set xs j x) ≡ take (j + 1) new ++ drop (j + 1) old
+  next_written mean xs new old j d x e k h so write =
+      map-set mean xs j x
+      ∙ ap₂ (λ ys y. set ys j y) so
+      (write (sym (get_or-map mean xs j d f.zero h) ∙ ap (λ ys. get_or ys j f.zero) so ∙ next_as_was f.zero new old j e (omega arith)))
+      ∙ advance f.zero new old j e (omega arith)

@@ -1,5 +1,5 @@
 -- The terms of a polynomial at one power of the root after another, and what the search for its roots keeps.
-use Rattle.std.proofs.Common.{◌≡◌, ℕ, zero, suc, ◌+◌, ◌-◌, ◌<◌, ◌≤◌, List, [], ◌∷◌, ◌++◌, map, length, get_or, take, set, sym, refl, ap, ◌∙◌, subst, ap₂, add-one, arith, length-append, length-take-le, take-suc-set}
+use Rattle.std.proofs.Common.{◌≡◌, ℕ, zero, suc, ◌+◌, ◌-◌, ◌<◌, ◌≤◌, List, [], ◌∷◌, ◌++◌, map, length, get_or, take, set, sym, refl, ap, ◌∙◌, subst, ap₂, add-one, arith, length-append, take-suc-set}
 use mathlib.Core.List.{map-append}
 use Rattle.gf.specs.Theory.{Operations, Laws, pow}
 use Rattle.codes.specs.Polynomials.{value, zeros}
@@ -50,45 +50,47 @@ module _ {E : Type 0} {f : Operations E} (l : Laws f) where
       ∙ l.mul_assoc c (pow f x (length p)) (pow f y (length p))
       ∙ ap (f.mul c) (l.mul_comm (pow f x (length p)) (pow f y (length p)) ∙ sym (pow-mul l y x (length p)))) (terms_terms x y p)
 
-  module _ (p : List E) (n e : ℕ) (here : e < n) where
-    point_here : point f n (n - 1 - e) ≡ pow f f.root e
-    point_here =
-        let same : n - 1 - (n - 1 - e) ≡ e = omega arith in ap (pow f f.root) same
+  -- the place k of a word of n symbols, with e places behind it
+  module _ (p : List E) (n k e : ℕ) (here : k + e + 1 ≡ n) where
+    point_here : point f n k ≡ pow f f.root e
+    point_here = let same : n - 1 - k ≡ e = omega arith in ap (pow f f.root) same
 
-    value_here : value f (point f n (n - 1 - e)) p ≡ total f (terms_of f (pow f f.root e) p)
+    value_here : value f (point f n k) p ≡ total f (terms_of f (pow f f.root e) p)
     value_here = ap (λ x. value f x p) point_here ∙ sym (total-terms_of f (pow f f.root e) p)
 
-    -- the terms do not add up to zero: the next place is no suspect
+    before : n - 1 - e ≡ k
+    before = omega arith
+
+    -- the terms do not add up to zero: the place is no suspect
     pub miss : (places : List ℕ) → (total f (terms_of f (pow f f.root e) p) ≡ f.zero → ⊥) → Suspects f p n e places → Suspects f p n (e + 1) places
     miss places z s =
-        subst (λ (k : ℕ). Suspects f p n k places) (sym (add-one e)) (suspects_miss l p n e places here (λ v. z (sym value_here ∙ v)) s)
+        subst (λ (m : ℕ). Suspects f p n m places) (sym (add-one e))
+        (suspects_miss l p n e places (omega arith) (λ v. z (sym value_here ∙ ap (λ (m : ℕ). value f (point f n m) p) (sym before) ∙ v)) s)
 
     -- they do: it is one, and is written behind the others
-    module _ (places : List ℕ) (found : ℕ) (root : total f (terms_of f (pow f f.root e) p) ≡ f.zero) (so : Suspects f p n e (take found places)) where
-      more : Suspects f p n (suc e) (take found places ++ ((n - 1 - e) ∷ []))
-      more = suspects_hit l p n e (take found places) here (value_here ∙ root) so
+    module _ (places : List ℕ) (root : total f (terms_of f (pow f f.root e) p) ≡ f.zero) (so : Suspects f p n e places) where
+      more : Suspects f p n (suc e) (places ++ (k ∷ []))
+      more =
+          subst (λ (m : ℕ). Suspects f p n (suc e) (places ++ (m ∷ []))) before
+          (suspects_hit l p n e places (omega arith) (ap (λ (m : ℕ). value f (point f n m) p) before ∙ value_here ∙ root) so)
+
+      pub hit : Suspects f p n (e + 1) (places ++ (k ∷ []))
+      hit = subst (λ (m : ℕ). Suspects f p n m (places ++ (k ∷ []))) (sym (add-one e)) more
 
       -- there are still fewer than coefficients
-      pub room : n ≤ f.reach → 0 < length p → (p ≡ zeros f (length p) → ⊥) → found ≤ length places → found + 1 < length p
-      room h some nonzero b =
+      pub room : n ≤ f.reach → 0 < length p → (p ≡ zeros f (length p) → ⊥) → length places + 1 < length p
+      room h some nonzero =
           omega (
             arith,
-            suspects_few l (length p - 1) n (suc e) p (take found places ++ ((n - 1 - e) ∷ [])) h (omega arith) nonzero more,
-            length-append (take found places) ((n - 1 - e) ∷ []),
-            length-take-le found places b,
+            suspects_few l (length p - 1) n (suc e) p (places ++ (k ∷ [])) h (omega arith) nonzero more,
+            length-append places (k ∷ []),
           )
 
-      next : found < length places → take found places ++ ((n - 1 - e) ∷ []) ≡ take (found + 1) (set places found (n - 1 - e))
-      next b = sym (ap (λ (k : ℕ). take k (set places found (n - 1 - e))) (add-one found) ∙ take-suc-set places found (n - 1 - e) b)
-
-      pub hit : found < length places → Suspects f p n (e + 1) (take (found + 1) (set places found (n - 1 - e)))
-      hit b = subst (λ (k : ℕ). Suspects f p n k (take (found + 1) (set places found (n - 1 - e)))) (sym (add-one e)) (subst (Suspects f p n (suc e)) (next b) more)
-
       -- and its point behind the other points
-      pub points-next : {S : Type 0} (mean : S → E) (points : List S) (x : S) → found < length points → found < length places
-          → mean x ≡ pow f f.root e → map mean (take found points) ≡ map (point f n) (take found places)
-          → map mean (take (found + 1) (set points found x)) ≡ map (point f n) (take (found + 1) (set places found (n - 1 - e)))
-      points-next mean points x b d q same =
-          ap (map mean) (ap (λ (k : ℕ). take k (set points found x)) (add-one found) ∙ take-suc-set points found x b)
-          ∙ map-append mean (take found points) (x ∷ []) ∙ ap₂ (λ xs y. xs ++ (y ∷ [])) same (q ∙ sym point_here)
-          ∙ sym (map-append (point f n) (take found places) ((n - 1 - e) ∷ [])) ∙ ap (map (point f n)) (next d)
+      pub points-next : {S : Type 0} (mean : S → E) (points : List S) (x : S) → length places < length points
+          → mean x ≡ pow f f.root e → map mean (take (length places) points) ≡ map (point f n) places
+          → map mean (take (length (places ++ (k ∷ []))) (set points (length places) x)) ≡ map (point f n) (places ++ (k ∷ []))
+      points-next mean points x b q same =
+          ap (map mean) (ap (λ (m : ℕ). take m (set points (length places) x)) (length-append places (k ∷ []) ∙ add-one (length places)) ∙ take-suc-set points (length places) x b)
+          ∙ map-append mean (take (length places) points) (x ∷ []) ∙ ap₂ (λ xs y. xs ++ (y ∷ [])) same (q ∙ sym point_here)
+          ∙ sym (map-append (point f n) places (k ∷ []))

@@ -1,13 +1,19 @@
--- Which work buffers are admitted.
-use Rattle.std.proofs.Common.{◌≡◌, false, ◌&&◌, List, length, sym, ap, eq-eqb, ne_eqb}
+-- What an admitted shape of a word says of its sizes.
+use Rattle.std.proofs.Common.{◌≡◌, ℕ, ◌<◌, ◌≤◌, Bool, true, false, ◌&&◌, List, map, length, sym, refl, ◌∙◌, rules, eqb-true}
+use lib.ListN.{length-map}
+use borrow.Author.Tests.{clash}
 use Rattle.gf.specs.Theory.{Operations}
-use Rattle.codes.specs.Codewords.{all_zero, work_shape}
+use Rattle.codes.specs.Codewords.{all_zero, code_shape, work_shape}
 
-module _ {E : Type 0} (f : Operations E) (work : List E) where
-  -- the length is right: the symbols decide
-  pub work_long : length work ≡ 512 → all_zero f work ≡ work_shape f work
-  work_long e = sym (ap (λ b. b && all_zero f work) (eq-eqb (length work) 512 e))
+pub code_sizes : {E : Type 0} (f : Operations E) (n r : ℕ) → code_shape f n r ≡ true → (1 ≤ r) × (r ≤ 16) × (r < n) × (n ≤ f.reach)
+code_sizes f n r e = (search rules, search rules, search rules, search rules)
 
-  -- the length is wrong
-  pub work_other : (length work ≡ 512 → ⊥) → false ≡ work_shape f work
-  work_other ne = sym (ap (λ b. b && all_zero f work) (ne_eqb (length work) 512 ne))
+-- an admitted work buffer has its length
+pub work_long : {E S : Type 0} (f : Operations E) (mean : S → E) (shape : Bool) (work : List S) → true ≡ (shape && work_shape f (map mean work))
+    → length work ≡ 512
+work_long f mean true work e = sym (length-map work mean) ∙ eqb-true (length (map mean work)) 512 (first _ (all_zero f (map mean work)) (sym e))
+  where
+    first : (a b : Bool) → a && b ≡ true → a ≡ true
+    first true b e = refl
+    first false b e = e
+work_long f mean false work e = absurd (clash (sym e))

@@ -1,5 +1,5 @@
 -- A symbol taken into each syndrome, place by place, and a word taken in symbol by symbol.
-use Rattle.std.proofs.Common.{◌≡◌, ℕ, ◌+◌, ◌<◌, ◌&&◌, List, [], ◌∷◌, ◌++◌, map, length, get_or, take, sym, ap, ◌∙◌, subst, ⊎_elim, arith}
+use Rattle.std.proofs.Common.{◌≡◌, ℕ, ◌+◌, ◌<◌, Bool, ◌&&◌, fold, List, [], ◌∷◌, ◌++◌, map, length, get_or, take, sym, ap, ◌∙◌, subst, ⊎_elim, arith}
 use mathlib.Core.Bool.{and_assoc, and-true}
 use mathlib.Core.List.{map-append}
 use Rattle.std.proofs.lemmas.List.{take_more}
@@ -28,14 +28,14 @@ module _ {E : Type 0} (f : Operations E) where
     left = λ i h. other i (λ y. omega arith) ∙ s.left i (omega arith);
   }
 
-  all_zero-snoc : (p : List E) (c : E) → all_zero f (p ++ (c ∷ [])) ≡ all_zero f p && f.equal c f.zero
-  all_zero-snoc [] c = and-true (f.equal c f.zero)
-  all_zero-snoc (a ∷ p) c =
-      ap (λ b. f.equal a f.zero && b) (all_zero-snoc p c) ∙ sym (and_assoc (f.equal a f.zero) (all_zero f p) (f.equal c f.zero))
-
-  pub zero_more : {S : Type 0} (mean : S → E) (xs : List S) (i : ℕ) (x : S) → i < length xs → x ≡ get_or xs i x
-      → all_zero f (map mean (take i xs)) && f.equal (mean x) f.zero ≡ all_zero f (map mean (take (i + 1) xs))
-  zero_more mean xs i x h e = sym (ap (all_zero f) (next mean xs i x h e) ∙ all_zero-snoc (map mean (take i xs)) (mean x))
+  -- a fold over the tests of all symbols
+  pub all_zero-fold : {S : Type 0} (mean : S → E) (z : E) (b : Bool) (xs : List S) → z ≡ f.zero
+      → fold (λ b x. b && f.equal (mean x) z) b xs ≡ b && all_zero f (map mean xs)
+  all_zero-fold mean z b [] e = sym (and-true b)
+  all_zero-fold mean z b (x ∷ xs) e =
+      all_zero-fold mean z (b && f.equal (mean x) z) xs e
+      ∙ and_assoc b (f.equal (mean x) z) (all_zero f (map mean xs))
+      ∙ ap (λ y. b && (f.equal (mean x) y && all_zero f (map mean xs))) e
 
 module _ {E : Type 0} {f : Operations E} (l : Laws f) where
   -- one symbol more

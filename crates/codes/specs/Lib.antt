@@ -6,3 +6,4 @@ pub mod Filling
 pub mod Elimination
 pub mod Syndromes
 pub mod Decoding
+pub mod Matrices

@@ -20,8 +20,7 @@ pub const WORK_SYMBOLS: usize = 512;
 
 // Whether the code has words of so many symbols with so many checks.
 fn has_shape<F: Field>(symbols: usize, checks: usize) -> bool
-    ensures value { result ≡ code_shape F.field symbols checks }
-    ensures sizes { result ≡ true → (1 ≤ checks) × (checks ≤ 16) × (checks < symbols) × (symbols ≤ F.field.reach) }
+    ensures { result ≡ code_shape F.field symbols checks }
 {
     1 <= checks
         && checks <= MAX_CHECKS
@@ -30,30 +29,12 @@ fn has_shape<F: Field>(symbols: usize, checks: usize) -> bool
         && symbols <= MAX_SYMBOLS
 }
 
-// Whether the work buffer has its length and is all zeros.
-fn is_work<F: Field>(work: &[F]) -> bool
-    ensures value { result ≡ work_shape F.field (map F.mean work.now) }
-    ensures size { result ≡ true → length work.now ≡ 512 }
-{
-    work.len() == WORK_SYMBOLS && are_zero(work)
-}
-
-// Whether the code admits the word with so many checks, and the work buffer.
+// Whether the code admits the word with so many checks, and the work buffer. It answers a `bool`: with a struct of the three in its
+// place, a proof does not know what word and buffer hold where there is none.
 fn is_admitted<F: Field>(word: &[F], checks: usize, work: &[F]) -> bool
-    ensures value { result ≡ (code_shape F.field (length word.now) checks && work_shape F.field (map F.mean work.now)) }
-    ensures checks { result ≡ true → (1 ≤ checks) × (checks ≤ 16) }
-    ensures word { result ≡ true → (checks < length word.now) × (length word.now ≤ F.field.reach) }
-    ensures work { result ≡ true → length work.now ≡ 512 }
+    ensures { result ≡ (code_shape F.field (length word.now) checks && work_shape F.field (map F.mean work.now)) }
 {
-    has_shape::<F>(word.len(), checks) && is_work(work)
-}
-
-// Writes zero all over the work buffer.
-fn clear_work<F: Field>(work: &mut [F])
-    requires { length work.old ≡ 512 }
-    ensures { map F.mean work.new ≡ zeros F.field 512 }
-{
-    clear(work);
+    has_shape::<F>(word.len(), checks) && work.len() == WORK_SYMBOLS && are_zero(work)
 }
 
 // Writes the negatives of the symbols over as many places.
@@ -61,15 +42,15 @@ fn write_negatives<F: Field>(symbols: &[F], places: &mut [F])
     requires { length places.old ≡ length symbols.now }
     ensures { map F.mean places.new ≡ negs F.field (map F.mean symbols.now) }
 {
-    for j in 0..symbols.len() {
-        places[j] = symbols[j].neg();
+    places.copy_from_slice(symbols);
+    for place in places.iter_mut() {
+        *place = place.neg();
     }
 }
 
 // Fills the checks of a word of an admitted shape.
 fn fill_checks<F: Field>(word: &mut [F], checks: usize, work: &mut [F])
-    requires checks { (1 ≤ checks) × (checks ≤ 16) }
-    requires word { (checks < length word.old) × (length word.old ≤ F.field.reach) }
+    requires shape { code_shape F.field (length word.old) checks ≡ true }
     requires work { length work.old ≡ 512 }
     ensures { Filled F.field F.mean checks word.old word.new }
 {
@@ -85,8 +66,7 @@ fn fill_checks<F: Field>(word: &mut [F], checks: usize, work: &mut [F])
 
 // Corrects a word of an admitted shape. A codeword is known by its syndromes alone.
 fn correct_word<F: Field>(word: &mut [F], checks: usize, work: &mut [F]) -> Result<usize, Refusal>
-    requires checks { (1 ≤ checks) × (checks ≤ 16) }
-    requires word { (checks < length word.old) × (length word.old ≤ F.field.reach) }
+    requires shape { code_shape F.field (length word.old) checks ≡ true }
     requires work { length work.old ≡ 512 }
     ensures { Outcome F.field F.mean checks word.old word.new result }
 {
@@ -107,7 +87,7 @@ pub fn encode<F: Field>(word: &mut [F], checks: usize, work: &mut [F]) -> Result
         return Err(Refusal::Shape);
     }
     fill_checks(word, checks, work);
-    clear_work(work);
+    clear(work);
     Ok(())
 }
 
@@ -123,6 +103,6 @@ pub fn correct<F: Field>(word: &mut [F], checks: usize, work: &mut [F]) -> Resul
         return Err(Refusal::Shape);
     }
     let answer = correct_word(word, checks, work);
-    clear_work(work);
+    clear(work);
     answer
 }

@@ -9,6 +9,7 @@ const MAX_DEGREE: usize = 16;
 
 // Takes the highest symbol off `rest`, and that multiple of the divisor with it; `symbol` comes in behind.
 // `tail` is the divisor without its leading one.
+// Each place takes what stands behind it, all in one pass: to turn the places first, by `rotate_left`, makes bits seven times as slow.
 fn step<F: Field>(tail: &[F], symbol: F, rest: &mut [F])
     requires { (length rest.old ≡ length tail.now) × (0 < length tail.now) }
     ensures { map F.mean rest.new ≡ stepped F.field (map F.mean tail.now) (map F.mean rest.old) (F.mean symbol) }
@@ -31,7 +32,7 @@ fn take_in<F: Field>(message: &[F], tail: &[F], rest: &mut [F])
     }
 }
 
-// Writes zero everywhere.
+// Writes zero everywhere. `fill` takes a type whose `clone` cannot fail, and a field's symbols are not said to be of one.
 pub(crate) fn clear<F: Field>(symbols: &mut [F])
     ensures { map F.mean symbols.new ≡ zeros F.field (length symbols.old) }
 {
@@ -43,22 +44,14 @@ pub(crate) fn clear<F: Field>(symbols: &mut [F])
 
 // Whether a division admits the divisor, and so many places for the rest.
 fn is_admitted<F: Field>(divisor: &[F], places: usize) -> bool
-    ensures value { result ≡ admitted F.field (map F.mean divisor.now) places }
-    ensures sizes { result ≡ true → (1 ≤ places) × (length divisor.now ≡ places + 1) }
+    ensures { result ≡ admitted F.field (map F.mean divisor.now) places }
 {
-    if places < 1 || places > MAX_DEGREE {
-        return false;
-    }
-    if divisor.len() != places + 1 {
-        return false;
-    }
-    divisor[0].same(F::one())
+    1 <= places && places <= MAX_DEGREE && divisor.len() == places + 1 && divisor[0].same(F::one())
 }
 
-// Divides what `rest` holds, with the message behind it.
+// Divides what `rest` holds, with the message behind it. The three go by themselves, since the public calls are lent them so.
 fn divide_behind<F: Field>(message: &[F], divisor: &[F], rest: &mut [F])
-    requires shape { admitted F.field (map F.mean divisor.now) (length rest.old) ≡ true }
-    requires sizes { (1 ≤ length rest.old) × (length divisor.now ≡ length rest.old + 1) }
+    requires { admitted F.field (map F.mean divisor.now) (length rest.old) ≡ true }
     ensures { Remainder F.field (map F.mean rest.old ++ map F.mean message.now) (map F.mean divisor.now) (map F.mean rest.new) }
 {
     take_in(message, &divisor[1..], rest);
@@ -66,8 +59,7 @@ fn divide_behind<F: Field>(message: &[F], divisor: &[F], rest: &mut [F])
 
 // Divides the message alone.
 pub(crate) fn divide<F: Field>(message: &[F], divisor: &[F], rest: &mut [F])
-    requires shape { admitted F.field (map F.mean divisor.now) (length rest.old) ≡ true }
-    requires sizes { (1 ≤ length rest.old) × (length divisor.now ≡ length rest.old + 1) }
+    requires { admitted F.field (map F.mean divisor.now) (length rest.old) ≡ true }
     ensures { Remainder F.field (map F.mean message.now) (map F.mean divisor.now) (map F.mean rest.new) }
 {
     clear(rest);

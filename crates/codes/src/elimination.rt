@@ -1,24 +1,19 @@
-// Elimination over every field: a vector that is not zero, and that a matrix with one column more than rows sends to zero.
+// Elimination over every field: a vector that is not zero, and that a matrix with more columns than rows sends to zero.
 ghost use Rattle.std.specs.Prelude.{◌≡◌, ℕ, ◌+◌, ◌*◌, ◌<◌, ◌≤◌, length, MatchOption, ◌≢◌};
 ghost use Rattle.codes.specs.Elimination.{cells, entries, sent, Put, Pivot, Free, Swapped, Others, Cleared, Below, Steps, Reduced, Single, Kernel};
 
 use crate::division::clear;
 use gf::Field;
 
-// The entry at a row and a column, of rows of `width` symbols one after another.
-pub(crate) fn at<F: Field>(matrix: &[F], width: usize, row: usize, column: usize) -> F
-    requires { row * width + column < length matrix.now }
-    ensures { F.mean result ≡ cells F.field F.mean width matrix.now row column }
-{
-    matrix[row * width + column]
-}
-
-// Writes the entry at a row and a column.
-pub(crate) fn put<F: Field>(matrix: &mut [F], width: usize, row: usize, column: usize, value: F)
-    requires { (column < width) × (row * width + column < length matrix.old) }
-    ensures { Put width (cells F.field F.mean width matrix.old) row column (F.mean value) (cells F.field F.mean width matrix.new) }
-{
-    matrix[row * width + column] = value;
+// A matrix with more columns than rows on lent symbols, row after row; there may be more of them. Each method asks that its row and
+// column are there, and says that the shape stays: a type for a row's number would have to name its matrix.
+#[derive(Drop)]
+pub(crate) struct Matrix<'a, F> {
+    symbols: &'a mut [F],
+    rows: usize,
+    columns: usize,
+    ghost within: { rows * columns ≤ length symbols.now },
+    ghost wide: { rows < columns },
 }
 
 // The factor by which `b` takes `a` to zero.
@@ -27,97 +22,6 @@ fn clearing<F: Field>(a: F, b: F) -> F
     ensures { F.field.add (F.mean a) (F.field.mul (F.mean result) (F.mean b)) ≡ F.field.zero }
 {
     a.mul(b.inv()).neg()
-}
-
-// The first row that is not zero in a column, of the rows from that number on.
-fn find_pivot<F: Field>(matrix: &[F], rows: usize, width: usize, column: usize) -> Option<usize>
-    requires { (rows * width ≤ length matrix.now) × (column < width) }
-    ensures { MatchOption result (Free F.field rows column (cells F.field F.mean width matrix.now)) (λ p. Pivot F.field rows column (cells F.field F.mean width matrix.now) p) }
-{
-    let mut row = column;
-    loop {
-        if row >= rows {
-            break None;
-        }
-        if !at(matrix, width, row, column).same(F::zero()) {
-            break Some(row);
-        }
-        row += 1;
-    }
-}
-
-// Exchanges two rows.
-fn swap_rows<F: Field>(matrix: &mut [F], width: usize, first: usize, second: usize)
-    requires { (first * width + width ≤ length matrix.old) × (second * width + width ≤ length matrix.old) }
-    ensures { Swapped width width (cells F.field F.mean width matrix.old) first second (cells F.field F.mean width matrix.new) }
-{
-    for column in 0..width {
-        let upper = at(matrix, width, first, column);
-        let lower = at(matrix, width, second, column);
-        put(matrix, width, first, column, lower);
-        put(matrix, width, second, column, upper);
-    }
-}
-
-// Adds a multiple of row `pivot` to `row`, from column `pivot` on, so that `row` is zero in that column.
-fn clear_row<F: Field>(matrix: &mut [F], width: usize, pivot: usize, row: usize)
-    requires within { (pivot * width + width ≤ length matrix.old) × ((row * width + width ≤ length matrix.old) × (pivot < width)) }
-    requires other { row ≢ pivot }
-    requires some { cells F.field F.mean width matrix.old pivot pivot ≢ F.field.zero }
-    ensures cleared { Cleared F.field width pivot (cells F.field F.mean width matrix.old) row (cells F.field F.mean width matrix.new) }
-    ensures others { Others width (cells F.field F.mean width matrix.old) row (cells F.field F.mean width matrix.new) }
-{
-    let factor = clearing(
-        at(matrix, width, row, pivot),
-        at(matrix, width, pivot, pivot),
-    );
-    for column in pivot..width {
-        let above = at(matrix, width, pivot, column);
-        let sum = at(matrix, width, row, column).add(factor.mul(above));
-        put(matrix, width, row, column, sum);
-    }
-}
-
-// Clears column `pivot` in the rows below row `pivot`.
-fn clear_below<F: Field>(matrix: &mut [F], rows: usize, width: usize, pivot: usize)
-    requires within { (rows * width ≤ length matrix.old) × ((pivot < rows) × (pivot < width)) }
-    requires some { cells F.field F.mean width matrix.old pivot pivot ≢ F.field.zero }
-    ensures { Below F.field width rows pivot (cells F.field F.mean width matrix.old) (cells F.field F.mean width matrix.new) }
-{
-    for row in pivot + 1..rows {
-        clear_row(matrix, width, pivot, row);
-    }
-}
-
-// Brings the rows into steps, and returns the first column that has no pivot.
-fn reduce<F: Field>(matrix: &mut [F], rows: usize, width: usize) -> usize
-    requires { (rows * width ≤ length matrix.old) × (rows < width) }
-    ensures { Reduced F.field rows width (cells F.field F.mean width matrix.old) (cells F.field F.mean width matrix.new) result }
-{
-    let mut column = 0;
-    while column < rows {
-        let Some(pivot) = find_pivot(matrix, rows, width, column) else {
-            break;
-        };
-        swap_rows(matrix, width, column, pivot);
-        clear_below(matrix, rows, width, column);
-        column += 1;
-    }
-    column
-}
-
-// What a row sends `vector` to, which is zero before place `from` and from place `to` on.
-fn dot<F: Field>(matrix: &[F], width: usize, row: usize, from: usize, to: usize, vector: &[F]) -> F
-    requires within { (row * width + width ≤ length matrix.now) × ((width ≤ length vector.now) × ((from ≤ to) × (to ≤ width))) }
-    requires front { (j : ℕ) → j < from → entries F.field F.mean vector.now j ≡ F.field.zero }
-    requires back { (j : ℕ) → to ≤ j → entries F.field F.mean vector.now j ≡ F.field.zero }
-    ensures { F.mean result ≡ sent F.field width (cells F.field F.mean width matrix.now) row (entries F.field F.mean vector.now) }
-{
-    let mut sum = F::zero();
-    for column in from..to {
-        sum = sum.add(at(matrix, width, row, column).mul(vector[column]));
-    }
-    sum
 }
 
 // Writes one at `free`, and zero elsewhere.
@@ -129,25 +33,163 @@ fn single<F: Field>(vector: &mut [F], free: usize)
     vector[free] = F::one();
 }
 
-// Finds what the rows, in steps up to column `free`, send to zero, and that is one at `free`.
-fn substitute<F: Field>(matrix: &[F], rows: usize, width: usize, free: usize, vector: &mut [F])
-    requires within { (rows * width ≤ length matrix.now) × ((free ≤ rows) × ((rows < width) × (width ≤ length vector.old))) }
-    requires shape { (Steps F.field rows free (cells F.field F.mean width matrix.now)) × (Free F.field rows free (cells F.field F.mean width matrix.now)) }
-    ensures { Kernel F.field rows width (cells F.field F.mean width matrix.now) (entries F.field F.mean vector.new) }
-{
-    single(vector, free);
-    for row in (0..free).rev() {
-        let rest = dot(matrix, width, row, row + 1, free + 1, vector);
-        vector[row] = clearing(rest, at(matrix, width, row, row));
-    }
-}
+impl<'a, F: Field> Matrix<'a, F> {
+    ghost use Rattle.codes.specs.Matrices.{SameShape};
 
-// Writes to `vector` what is not zero, and each of the `rows` rows of `rows + 1` symbols sends to zero. The matrix is used up.
-pub(crate) fn kernel_vector<F: Field>(matrix: &mut [F], rows: usize, vector: &mut [F])
-    requires { (rows * (rows + 1) ≤ length matrix.old) × (length vector.old ≡ rows + 1) }
-    ensures { Kernel F.field rows (rows + 1) (cells F.field F.mean (rows + 1) matrix.old) (entries F.field F.mean vector.new) }
-{
-    let width = rows + 1;
-    let free = reduce(matrix, rows, width);
-    substitute(matrix, rows, width, free, vector);
+    // A matrix of whatever the symbols are.
+    pub(crate) fn new(symbols: &'a mut [F], rows: usize, columns: usize) -> Matrix<'a, F>
+        requires { (rows * columns ≤ length symbols.old) × (rows < columns) }
+        ensures { (result.rows ≡ rows) × (result.columns ≡ columns) }
+    {
+        Matrix {
+            symbols,
+            rows,
+            columns,
+        }
+    }
+
+    pub(crate) fn rows(&self) -> usize
+        ensures { result ≡ self.now.rows }
+    {
+        self.rows
+    }
+
+    // Where the entry at a row and a column stands among the symbols.
+    fn place(&self, row: usize, column: usize) -> usize
+        requires { (row < self.now.rows) × (column < self.now.columns) }
+        ensures value { result ≡ row * self.now.columns + column }
+        ensures within { result < length self.now.symbols.now }
+    {
+        row * self.columns + column
+    }
+
+    // The entry at a row and a column.
+    fn at(&self, row: usize, column: usize) -> F
+        requires { (row < self.now.rows) × (column < self.now.columns) }
+        ensures { F.mean result ≡ cells F.field F.mean self.now.columns self.now.symbols.now row column }
+    {
+        self.symbols[self.place(row, column)]
+    }
+
+    // Writes the entry at a row and a column.
+    pub(crate) fn put(&mut self, row: usize, column: usize, value: F)
+        requires { (row < self.old.rows) × (column < self.old.columns) }
+        ensures shape { SameShape self.old self.new }
+        ensures written { Put self.old.columns (cells F.field F.mean self.old.columns self.old.symbols.now) row column (F.mean value) (cells F.field F.mean self.old.columns self.new.symbols.now) }
+    {
+        let place = self.place(row, column);
+        self.symbols[place] = value;
+    }
+
+    // Whether the entry at a row and a column is zero.
+    fn is_zero(&self, row: usize, column: usize) -> bool
+        requires { (row < self.now.rows) × (column < self.now.columns) }
+        ensures { result ≡ F.field.equal (cells F.field F.mean self.now.columns self.now.symbols.now row column) F.field.zero }
+    {
+        self.at(row, column).same(F::zero())
+    }
+
+    // The first row that is not zero in a column, of the rows from that number on.
+    fn find_pivot(&self, column: usize) -> Option<usize>
+        requires { column < self.now.columns }
+        ensures { MatchOption result (Free F.field self.now.rows column (cells F.field F.mean self.now.columns self.now.symbols.now)) (λ p. Pivot F.field self.now.rows column (cells F.field F.mean self.now.columns self.now.symbols.now) p) }
+    {
+        (column..self.rows).find(|row| !self.is_zero(*row, column))
+    }
+
+    // Exchanges two rows, column by column: a matrix lies in one slice, and what a loop over `chunks_mut` has written no proof knows.
+    fn swap_rows(&mut self, first: usize, second: usize)
+        requires { (first < self.old.rows) × (second < self.old.rows) }
+        ensures shape { SameShape self.old self.new }
+        ensures swapped { Swapped self.old.columns self.old.columns (cells F.field F.mean self.old.columns self.old.symbols.now) first second (cells F.field F.mean self.old.columns self.new.symbols.now) }
+    {
+        for column in 0..self.columns {
+            let upper = self.place(first, column);
+            let lower = self.place(second, column);
+            self.symbols.swap(upper, lower);
+        }
+    }
+
+    // Adds a multiple of row `pivot` to `row`, from column `pivot` on, so that `row` is zero in that column. The columns are counted, since
+    // both rows are parts of one slice, of which one is written.
+    fn clear_row(&mut self, pivot: usize, row: usize)
+        requires within { (pivot < self.old.rows) × ((row < self.old.rows) × (pivot < self.old.columns)) }
+        requires other { row ≢ pivot }
+        requires some { cells F.field F.mean self.old.columns self.old.symbols.now pivot pivot ≢ F.field.zero }
+        ensures shape { SameShape self.old self.new }
+        ensures cleared { Cleared F.field self.old.columns pivot (cells F.field F.mean self.old.columns self.old.symbols.now) row (cells F.field F.mean self.old.columns self.new.symbols.now) }
+        ensures others { Others self.old.columns (cells F.field F.mean self.old.columns self.old.symbols.now) row (cells F.field F.mean self.old.columns self.new.symbols.now) }
+    {
+        let factor = clearing(self.at(row, pivot), self.at(pivot, pivot));
+        for column in pivot..self.columns {
+            let above = self.at(pivot, column);
+            let sum = self.at(row, column).add(factor.mul(above));
+            self.put(row, column, sum);
+        }
+    }
+
+    // Clears column `pivot` in the rows below row `pivot`.
+    fn clear_below(&mut self, pivot: usize)
+        requires within { (pivot < self.old.rows) × (pivot < self.old.columns) }
+        requires some { cells F.field F.mean self.old.columns self.old.symbols.now pivot pivot ≢ F.field.zero }
+        ensures shape { SameShape self.old self.new }
+        ensures below { Below F.field self.old.columns self.old.rows pivot (cells F.field F.mean self.old.columns self.old.symbols.now) (cells F.field F.mean self.old.columns self.new.symbols.now) }
+    {
+        for row in pivot + 1..self.rows {
+            self.clear_row(pivot, row);
+        }
+    }
+
+    // Brings the rows into steps, and returns the first column that has no pivot.
+    fn reduce(&mut self) -> usize
+        ensures shape { SameShape self.old self.new }
+        ensures reduced { Reduced F.field self.old.rows self.old.columns (cells F.field F.mean self.old.columns self.old.symbols.now) (cells F.field F.mean self.old.columns self.new.symbols.now) result }
+    {
+        for column in 0..self.rows {
+            let Some(pivot) = self.find_pivot(column) else {
+                return column;
+            };
+            self.swap_rows(column, pivot);
+            self.clear_below(column);
+        }
+        self.rows
+    }
+
+    // What a row sends `vector` to, which is zero before place `from` and from place `to` on.
+    fn dot(&self, row: usize, from: usize, to: usize, vector: &[F]) -> F
+        requires within { (row < self.now.rows) × ((self.now.columns ≤ length vector.now) × ((from ≤ to) × (to ≤ self.now.columns))) }
+        requires front { (j : ℕ) → j < from → entries F.field F.mean vector.now j ≡ F.field.zero }
+        requires back { (j : ℕ) → to ≤ j → entries F.field F.mean vector.now j ≡ F.field.zero }
+        ensures { F.mean result ≡ sent F.field self.now.columns (cells F.field F.mean self.now.columns self.now.symbols.now) row (entries F.field F.mean vector.now) }
+    {
+        let start = row * self.columns;
+        let entries = &self.symbols[start + from..start + to];
+        let mut sum = F::zero();
+        for (entry, value) in entries.iter().zip(&vector[from..to]) {
+            sum = sum.add(entry.mul(*value));
+        }
+        sum
+    }
+
+    // Finds what the rows, in steps up to column `free`, send to zero, and that is one at `free`.
+    fn substitute(&self, free: usize, vector: &mut [F])
+        requires within { (free ≤ self.now.rows) × (self.now.columns ≤ length vector.old) }
+        requires shape { (Steps F.field self.now.rows free (cells F.field F.mean self.now.columns self.now.symbols.now)) × (Free F.field self.now.rows free (cells F.field F.mean self.now.columns self.now.symbols.now)) }
+        ensures { Kernel F.field self.now.rows self.now.columns (cells F.field F.mean self.now.columns self.now.symbols.now) (entries F.field F.mean vector.new) }
+    {
+        single(vector, free);
+        for row in (0..free).rev() {
+            let rest = self.dot(row, row + 1, free + 1, vector);
+            vector[row] = clearing(rest, self.at(row, row));
+        }
+    }
+
+    // Writes to `vector` what is not zero, and what each row sends to zero. The matrix is used up.
+    pub(crate) fn kernel_vector(&mut self, vector: &mut [F])
+        requires { length vector.old ≡ self.old.columns }
+        ensures { Kernel F.field self.old.rows self.old.columns (cells F.field F.mean self.old.columns self.old.symbols.now) (entries F.field F.mean vector.new) }
+    {
+        let free = self.reduce();
+        self.substitute(free, vector);
+    }
 }

@@ -2,43 +2,46 @@
 ghost use Rattle.std.specs.Prelude.{◌≡◌, ℕ, ◌+◌, ◌*◌, ◌<◌, ◌≤◌, map, length, take};
 ghost use Rattle.codes.specs.Codewords.{Apart, power_sum};
 ghost use Rattle.codes.specs.Elimination.{cells, entries};
+ghost use Rattle.codes.specs.Matrices.{SameShape};
 ghost use Rattle.codes.specs.Decoding.{point, Powers, Columns, Beside, Normalized};
 
-use crate::elimination::{kernel_vector, put};
+use crate::elimination::Matrix;
 use gf::Field;
 
 // Fills a column with the powers of a point, from the zeroth on.
-fn fill_column<F: Field>(matrix: &mut [F], rows: usize, column: usize, point: F)
-    requires { (rows ≤ 8) × ((column < rows) × (rows * (rows + 1) ≤ length matrix.old)) }
-    ensures powers { Powers F.field rows (F.mean point) column (cells F.field F.mean (rows + 1) matrix.new) }
-    ensures others { Beside (rows + 1) (cells F.field F.mean (rows + 1) matrix.old) column (cells F.field F.mean (rows + 1) matrix.new) }
+fn fill_column<F: Field>(matrix: &mut Matrix<F>, column: usize, point: F)
+    requires { column < matrix.old.columns }
+    ensures shape { SameShape matrix.old matrix.new }
+    ensures powers { Powers F.field matrix.old.rows (F.mean point) column (cells F.field F.mean matrix.old.columns matrix.new.symbols.now) }
+    ensures others { Beside matrix.old.columns (cells F.field F.mean matrix.old.columns matrix.old.symbols.now) column (cells F.field F.mean matrix.old.columns matrix.new.symbols.now) }
 {
     let mut power = F::one();
-    for i in 0..rows {
-        put(matrix, rows + 1, i, column, power);
+    for row in 0..matrix.rows() {
+        matrix.put(row, column, power);
         power = point.mul(power);
     }
 }
 
 // Fills a column for each point.
-fn fill_columns<F: Field>(points: &[F], matrix: &mut [F])
-    requires { (length points.now ≤ 8) × (length points.now * (length points.now + 1) ≤ length matrix.old) }
-    ensures { Columns F.field (length points.now) (entries F.field F.mean points.now) (length points.now) (cells F.field F.mean (length points.now + 1) matrix.new) }
+fn fill_columns<F: Field>(points: &[F], matrix: &mut Matrix<F>)
+    requires { length points.now ≤ matrix.old.columns }
+    ensures shape { SameShape matrix.old matrix.new }
+    ensures filled { Columns F.field matrix.old.rows (entries F.field F.mean points.now) (length points.now) (cells F.field F.mean matrix.old.columns matrix.new.symbols.now) }
 {
-    let rows = points.len();
-    for k in 0..rows {
-        fill_column(matrix, rows, k, points[k]);
+    for (column, point) in points.iter().enumerate() {
+        fill_column(matrix, column, *point);
     }
 }
 
-// Fills the last column with the first syndromes.
-fn fill_last<F: Field>(syndromes: &[F], matrix: &mut [F], rows: usize)
-    requires { (rows ≤ 8) × ((rows ≤ length syndromes.now) × (rows * (rows + 1) ≤ length matrix.old)) }
-    ensures sums { (i : ℕ) → i < rows → cells F.field F.mean (rows + 1) matrix.new i rows ≡ entries F.field F.mean syndromes.now i }
-    ensures others { Beside (rows + 1) (cells F.field F.mean (rows + 1) matrix.old) rows (cells F.field F.mean (rows + 1) matrix.new) }
+// Fills a column with symbols, as many as there are rows.
+fn write_column<F: Field>(symbols: &[F], matrix: &mut Matrix<F>, column: usize)
+    requires { (column < matrix.old.columns) × (length symbols.now ≡ matrix.old.rows) }
+    ensures shape { SameShape matrix.old matrix.new }
+    ensures written { (i : ℕ) → i < length symbols.now → cells F.field F.mean matrix.old.columns matrix.new.symbols.now i column ≡ entries F.field F.mean symbols.now i }
+    ensures others { Beside matrix.old.columns (cells F.field F.mean matrix.old.columns matrix.old.symbols.now) column (cells F.field F.mean matrix.old.columns matrix.new.symbols.now) }
 {
-    for i in 0..rows {
-        put(matrix, rows + 1, i, rows, syndromes[i]);
+    for (row, symbol) in symbols.iter().enumerate() {
+        matrix.put(row, column, *symbol);
     }
 }
 
@@ -48,8 +51,8 @@ fn normalize<F: Field>(vector: &mut [F], last: usize)
     ensures { Normalized F.field last (entries F.field F.mean vector.old) (entries F.field F.mean vector.new) }
 {
     let factor = vector[last].inv().neg();
-    for k in 0..last {
-        vector[k] = vector[k].mul(factor);
+    for entry in vector[..last].iter_mut() {
+        *entry = entry.mul(factor);
     }
 }
 
@@ -57,16 +60,17 @@ fn normalize<F: Field>(vector: &mut [F], last: usize)
 pub(crate) fn find_values<F: Field>(
     points: &[F],
     syndromes: &[F],
-    matrix: &mut [F],
+    symbols: &mut [F],
     values: &mut [F],
 )
-    requires sizes { (length points.now ≤ 8) × ((length points.now ≤ length syndromes.now) × ((length points.now < length values.old) × (length matrix.old ≡ 72))) }
+    requires sizes { (length points.now ≤ 8) × ((length points.now ≤ length syndromes.now) × ((length points.now < length values.old) × (length symbols.old ≡ 72))) }
     requires apart { Apart (map F.mean points.now) }
     ensures { (i : ℕ) → i < length points.now → power_sum F.field (map F.mean (take (length points.now) values.new)) (map F.mean points.now) i ≡ entries F.field F.mean syndromes.now i }
 {
     let count = points.len();
-    fill_columns(points, matrix);
-    fill_last(syndromes, matrix, count);
-    kernel_vector(matrix, count, &mut values[..count + 1]);
+    let mut matrix = Matrix::new(symbols, count, count + 1);
+    fill_columns(points, &mut matrix);
+    write_column(&syndromes[..count], &mut matrix, count);
+    matrix.kernel_vector(&mut values[..count + 1]);
     normalize(values, count);
 }

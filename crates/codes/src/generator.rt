@@ -7,14 +7,18 @@ ghost use Rattle.codes.specs.Filling.{Holds};
 use crate::division::clear;
 use gf::Field;
 
-// Multiplies the polynomial of that degree, in the first places, by x less that power of the root.
+// Multiplies the polynomial of that degree, in the first places, by x less that power of the root: each coefficient loses the product
+// of the one before with the power.
 fn take_factor<F: Field>(polynomial: &mut [F], degree: usize)
     requires sizes { (degree + 1 < length polynomial.old) × (degree < 16) }
     requires before { Holds F.field (generator F.field degree) (entries F.field F.mean polynomial.old) }
     ensures { Holds F.field (generator F.field (degree + 1)) (entries F.field F.mean polynomial.new) }
 {
-    for k in (0..degree + 1).rev() {
-        polynomial[k + 1] = polynomial[k + 1].add(polynomial[k].times_root_power(degree).neg());
+    let mut before = F::zero();
+    for coefficient in polynomial.iter_mut() {
+        let product = before.times_root_power(degree);
+        before = *coefficient;
+        *coefficient = coefficient.add(product.neg());
     }
 }
 

@@ -8,6 +8,7 @@ mod error_values;
 mod errors;
 mod generator;
 mod locator;
+mod room;
 mod syndromes;
 
 pub use code::{MAX_CHECKS, MAX_SYMBOLS, WORK_SYMBOLS, correct, encode};

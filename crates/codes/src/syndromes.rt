@@ -12,12 +12,13 @@ fn take_in<F: Field>(syndromes: &mut [F], symbol: F)
     requires { length syndromes.old ≤ 16 }
     ensures { Taken F.field (length syndromes.old) (F.mean symbol) (entries F.field F.mean syndromes.old) (entries F.field F.mean syndromes.new) }
 {
-    for i in 0..syndromes.len() {
-        syndromes[i] = syndromes[i].times_root_power(i).add(symbol);
+    for (i, syndrome) in syndromes.iter_mut().enumerate() {
+        *syndrome = syndrome.times_root_power(i).add(symbol);
     }
 }
 
-// Writes at each place the value of the word at that power of the root.
+// Writes at each place the value of the word at that power of the root. Syndromes go about as a slice of at most sixteen symbols; each
+// function would reach through a struct with that bound to the same slice, and have to say that it keeps its length.
 pub(crate) fn write_syndromes<F: Field>(word: &[F], syndromes: &mut [F])
     requires { length syndromes.old ≤ 16 }
     ensures { Syndromes F.field (length syndromes.old) (map F.mean word.now) (entries F.field F.mean syndromes.new) }
@@ -28,14 +29,12 @@ pub(crate) fn write_syndromes<F: Field>(word: &[F], syndromes: &mut [F])
     }
 }
 
-// Whether all symbols mean zero.
+// Whether all symbols mean zero. It does not stop early, so that many symbols are tested at once: `all` makes a clean row a quarter slower.
 pub(crate) fn are_zero<F: Field>(symbols: &[F]) -> bool
     ensures { result ≡ all_zero F.field (map F.mean symbols.now) }
 {
     let zero = F::zero();
-    let mut all = true;
-    for symbol in symbols {
-        all = all & symbol.same(zero);
-    }
-    all
+    symbols
+        .iter()
+        .fold(true, |all, symbol| all & symbol.same(zero))
 }

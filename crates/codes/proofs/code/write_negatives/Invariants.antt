@@ -2,8 +2,9 @@ use Rattle.std.proofs.Common.{◌≡◌, ◌++◌, map, take, drop}
 use Rattle.codes.specs.Polynomials.{negs}
 use Rattle.codes.proofs.code.write_negatives.Given as goal
 
--- the places before j are written, the others as they were
-abbrev pub invariant-loop-j : goal.invariant-loop-j
-invariant-loop-j g l =
+-- the places before the index have changed their sign, the others not yet
+abbrev pub invariant-loop-place : goal.invariant-loop-place
+invariant-loop-place g l =
     let F = g.F.Field in
-    map F.mean l.places ≡ take l.j (negs F.field (map F.mean l.symbols)) ++ drop l.j (map F.mean l.initial.places)
+    let old = map F.mean l.initial.places in
+    map F.mean l.places ≡ take l.place-index (negs F.field old) ++ drop l.place-index old

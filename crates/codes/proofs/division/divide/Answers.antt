@@ -9,5 +9,5 @@ returns g c =
     let message = map F.mean c.args.message.now in
     let divisor = map F.mean c.args.divisor.now in
     let rest = map F.mean c.divide_behind.new.rest in
-    alone g.met.F.Field.laws (length c.args.rest.now) divisor c.requires.shape (length c.args.rest.now) message rest
+    alone g.met.F.Field.laws (length c.args.rest.now) divisor c.requires (length c.args.rest.now) message rest
     (subst (λ cleared. Remainder F.field (cleared ++ message) divisor rest) c.clear.ensures c.divide_behind.ensures)

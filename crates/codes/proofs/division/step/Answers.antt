@@ -1,12 +1,9 @@
-use Rattle.std.proofs.Common.{◌≡◌, ℕ, ◌+◌, ◌-◌, ◌<◌, map, length, get_or, set, sym, refl, ap, ◌∙◌, ap₂, arith}
+use Rattle.std.proofs.Common.{◌≡◌, ℕ, ◌+◌, ◌-◌, ◌<◌, map, length, get_or, set, sym, ap, ◌∙◌, ap₂, arith}
 use lib.ListN.{length-map}
 use lib.Seq.{map-set}
 use Rattle.codes.specs.Division.{stepped}
-use Rattle.codes.proofs.Registers.{advance, ahead, length-stepped, stepped_at, stepped_last, read, whole}
+use Rattle.codes.proofs.Registers.{advance, ahead, length-stepped, next_written, stepped_at, stepped_last, read, whole}
 use Rattle.codes.proofs.division.step.Goals as goal
-
-pub loop-j-init : goal.loop-j-init
-loop-j-init g c = refl
 
 pub loop-j-preserved : goal.loop-j-preserved
 loop-j-preserved g c =
@@ -25,11 +22,9 @@ loop-j-preserved g c =
     ∙ ap (λ xs. get_or xs (j + 1) f.zero) c.loop-j.invariant ∙ ahead f.zero new old j 1 (omega arith) (omega arith) in
     let first = read f F.mean c.args.rest.now 0 c.index-rest-0.result (omega (arith, c.requires)) c.index-rest-0.is in
     let lower = read f F.mean c.args.tail.now j c.index-tail-j.result (omega (arith, length-map c.args.tail.now F.mean)) c.index-tail-j.is in
-    map-set F.mean now j c.add.result
-    ∙ ap₂ (λ xs x. set xs j x) c.loop-j.invariant
-    (c.add.ensures ∙ ap₂ f.add behind (c.neg.ensures ∙ ap f.neg (c.mul.ensures ∙ ap₂ f.mul first lower))
+    next_written f F.mean now new old j c.add.result c.add.result (omega arith) (omega (arith, length-map c.args.rest.now F.mean)) (omega arith) c.loop-j.invariant
+    (λ here. c.add.ensures ∙ ap₂ f.add behind (c.neg.ensures ∙ ap f.neg (c.mul.ensures ∙ ap₂ f.mul first lower))
     ∙ sym (stepped_at f tail old (F.mean c.args.symbol) j long before))
-    ∙ advance f.zero new old j (omega arith) (omega arith)
 
 pub returns : goal.returns
 returns g c =

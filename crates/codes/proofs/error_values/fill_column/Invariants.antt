@@ -1,14 +1,14 @@
-use Rattle.std.proofs.Common.{◌≡◌, ◌+◌}
+use Rattle.std.proofs.Common.{◌≡◌}
 use Rattle.gf.specs.Theory.{pow}
 use Rattle.codes.specs.Elimination.{cells}
 use Rattle.codes.specs.Decoding.{Powers, Beside}
 use Rattle.codes.proofs.error_values.fill_column.Given as goal
 
--- the rows before i hold their powers, and no other column is written
-abbrev pub invariant-loop-i : goal.invariant-loop-i
-invariant-loop-i g l =
+-- the rows before hold their powers, and no other column is written
+abbrev pub invariant-loop-row : goal.invariant-loop-row
+invariant-loop-row g l =
     let F = g.F.Field in
-    let a = cells F.field F.mean (l.rows + 1) l.initial.matrix in
-    let b = cells F.field F.mean (l.rows + 1) l.matrix in
-    (F.mean l.power ≡ pow F.field (F.mean l.point) l.i) × Powers F.field l.i (F.mean l.point) l.column b
-    × Beside (l.rows + 1) a l.column b
+    let old = l.initial.matrix in
+    let b = cells F.field F.mean old.columns l.matrix.symbols.now in
+    (l.matrix.rows ≡ old.rows) × (l.matrix.columns ≡ old.columns) × (F.mean l.power ≡ pow F.field (F.mean l.point) l.row)
+    × Powers F.field l.row (F.mean l.point) l.column b × Beside old.columns (cells F.field F.mean old.columns old.symbols.now) l.column b

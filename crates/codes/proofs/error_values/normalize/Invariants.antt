@@ -3,10 +3,10 @@ use Rattle.codes.specs.Elimination.{entries}
 use Rattle.codes.specs.Decoding.{Scaled}
 use Rattle.codes.proofs.error_values.normalize.Given as goal
 
--- the entries before k are multiplied, those from k on are as they were
-abbrev pub invariant-loop-k : goal.invariant-loop-k
-invariant-loop-k g l =
+-- the entries before are multiplied, the others are as they were
+abbrev pub invariant-loop-entry : goal.invariant-loop-entry
+invariant-loop-entry g l =
     let F = g.F.Field in
-    let old = entries F.field F.mean l.initial.vector in
-    let now = entries F.field F.mean l.vector in
-    Scaled F.field (F.mean l.factor) l.k old now × ((j : ℕ) → l.k ≤ j → now j ≡ old j)
+    let old = entries F.field F.mean l.initial.entry-items in
+    let now = entries F.field F.mean l.entry-items in
+    Scaled F.field (F.mean l.factor) l.entry-index old now × ((j : ℕ) → l.entry-index ≤ j → now j ≡ old j)

@@ -4,9 +4,9 @@ use Rattle.codes.specs.Elimination.{entries}
 use Rattle.codes.specs.Filling.{Between}
 use Rattle.codes.proofs.generator.take_factor.Given as goal
 
--- the places past k hold the product, the others are as they were
-abbrev pub invariant-loop-k : goal.invariant-loop-k
-invariant-loop-k g l =
+-- the places before the index hold the product, the others are as they were
+abbrev pub invariant-loop-coefficient : goal.invariant-loop-coefficient
+invariant-loop-coefficient g l =
     let F = g.F.Field in
     let f = F.field in
-    Between f l.k (generator f l.degree) (generator f (l.degree + 1)) (entries f F.mean l.polynomial)
+    Between f l.coefficient-index (generator f l.degree) (generator f (l.degree + 1)) (F.mean l.before) (entries f F.mean l.polynomial)

@@ -1,4 +1,4 @@
-use Rattle.std.proofs.Common.{◌+◌}
+use Rattle.std.proofs.Common.{◌≡◌, ◌+◌}
 use Rattle.codes.specs.Elimination.{cells, entries}
 use Rattle.codes.specs.Decoding.{Recurring}
 use Rattle.codes.proofs.locator.fill_rows.Given as goal
@@ -7,4 +7,6 @@ use Rattle.codes.proofs.locator.fill_rows.Given as goal
 abbrev pub invariant-loop-row : goal.invariant-loop-row
 invariant-loop-row g l =
     let F = g.F.Field in
-    Recurring F.field l.degree (entries F.field F.mean l.syndromes) l.row (cells F.field F.mean (l.degree + 1) l.matrix)
+    let old = l.initial.matrix in
+    (l.matrix.rows ≡ old.rows) × (l.matrix.columns ≡ old.columns)
+    × Recurring F.field old.rows (entries F.field F.mean l.syndromes) l.row (cells F.field F.mean (old.rows + 1) l.matrix.symbols.now)

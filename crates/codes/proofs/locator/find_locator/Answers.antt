@@ -1,4 +1,4 @@
-use Rattle.std.proofs.Common.{◌≡◌, ◌+◌, length, arith}
+use Rattle.std.proofs.Common.{◌≡◌, ◌+◌, length, ◌∙◌, arith}
 use Rattle.codes.specs.Elimination.{cells, entries}
 use Rattle.codes.proofs.Equations.{locator_solved}
 use Rattle.codes.proofs.locator.find_locator.Goals as goal
@@ -6,6 +6,11 @@ use Rattle.codes.proofs.locator.find_locator.Goals as goal
 pub returns : goal.returns
 returns g c =
     let F = g.F.Field in
-    let long : length c.kernel_vector.new.vector ≡ c.args.degree + 1 = omega (arith, c.kernel_vector.auto.vector, c.requires) in
-    locator_solved g.met.F.Field.laws F.mean c.args.degree (entries F.field F.mean c.args.syndromes.now)
-    (cells F.field F.mean (c.args.degree + 1) c.fill_rows.new.matrix) c.kernel_vector.new.vector long c.fill_rows.ensures c.kernel_vector.ensures
+    let t = c.args.degree in
+    let rows = c.new-matrix.ensures.0 in
+    let columns = c.new-matrix.ensures.1 in
+    let long : length c.kernel_vector.new.vector ≡ t + 1 = omega (arith, c.kernel_vector.auto.vector, c.requires) in
+    let filled = rw rows at c.fill_rows.ensures.filled in
+    let kernel = rw (c.fill_rows.ensures.shape.0 ∙ rows, c.fill_rows.ensures.shape.1 ∙ columns) at c.kernel_vector.ensures in
+    locator_solved g.met.F.Field.laws F.mean t (entries F.field F.mean c.args.syndromes.now)
+    (cells F.field F.mean (t + 1) c.fill_rows.new.matrix.symbols.now) c.kernel_vector.new.vector long filled kernel

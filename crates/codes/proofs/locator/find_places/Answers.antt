@@ -1,4 +1,4 @@
-use Rattle.std.proofs.Common.{ℕ, ◌+◌, ◌<◌, map, length, take, sym, refl, ap, ◌∙◌, subst, ap₂, add-one, arith}
+use Rattle.std.proofs.Common.{◌≡◌, ℕ, ◌+◌, ◌-◌, ◌<◌, [], ◌∷◌, map, length, take, sym, refl, ap, ◌∙◌, subst, ap₂, add-one, arith, length-append}
 use lib.ListN.{length-map}
 use Rattle.gf.specs.Theory.{pow}
 use Rattle.codes.specs.Polynomials.{zeros}
@@ -6,73 +6,91 @@ use Rattle.codes.specs.Decoding.{point, terms_of, total, Suspects}
 use Rattle.codes.proofs.PowerSums.{unequal}
 use Rattle.codes.proofs.Searching.{terms_one, terms_terms, hit, miss, room, points-next}
 use Rattle.codes.proofs.Suspects.{suspects-none}
-use Rattle.codes.proofs.locator.find_places.Given as given
 use Rattle.codes.proofs.locator.find_places.Goals as goal
 use Rattle.codes.proofs.locator.find_places.Goals.{then-same, else-same}
 
-pub loop-exponent-init : goal.loop-exponent-init
-loop-exponent-init g c = (sym (terms_one g.met.F.Field.laws _), c.one-point.ensures, suspects-none g.met.F.Field.laws _ _, refl, c.requires.sizes.1.0)
+pub loop-place-init : goal.loop-place-init
+loop-place-init g c =
+    let F = g.F.Field in
+    let f = F.field in
+    let l = g.met.F.Field.laws in
+    let none : 0 ≡ c.args.symbols - c.args.symbols = omega arith in
+    let p = map F.mean c.args.terms.now in
+    subst (λ (e : ℕ). map F.mean c.args.terms.now ≡ terms_of f (pow f f.root e) p × F.mean c.one-point.result ≡ pow f f.root e
+    × Suspects f p c.args.symbols e c.new-places.result.items
+    × map F.mean (take (length c.new-places.result.items) c.args.points.now) ≡ map (point f c.args.symbols) c.new-places.result.items
+    × length c.new-places.result.items < length c.args.terms.now) none
+    (rw c.new-places.ensures (sym (terms_one l p), c.one-point.ensures, suspects-none l _ _, refl, c.requires.sizes.1.0))
 
 -- with the place at hand there are still fewer places than coefficients
-fewer : (g : given.Over) (c : goal.Then-same g) → c.loop-exponent.found + 1 < length c.args.terms.now
-fewer g c =
+pub bounds-points-len : goal.bounds-points-len
+bounds-points-len g c =
     let F = g.F.Field in
     let f = F.field in
     let p = map F.mean c.args.terms.now in
     let long = length-map c.args.terms.now F.mean in
-    let sum = ap (total f) (sym c.loop-exponent.invariant.0) ∙ sym c.next_value.ensures.value ∙ g.met.F.Field.laws.equal_no _ _ (sym c.if-same.ensures) ∙ c.zero.ensures in
-    omega (
-      arith,
-      long,
-      room g.met.F.Field.laws p c.args.symbols c.loop-exponent.exponent c.loop-exponent-test.true c.loop-exponent.places c.loop-exponent.found sum
-          c.loop-exponent.invariant.2 c.requires.sizes.0 (omega (arith, long, c.requires.sizes)) (λ z. c.requires.some (z ∙ ap (zeros f) long)) (omega (arith, c.requires.sizes, c.loop-exponent.invariant.4, c.loop-exponent.auto)),
-    )
+    let sum = ap (total f) (sym c.loop-place.invariant.0) ∙ sym c.next_value.ensures.value ∙ g.met.F.Field.laws.equal_no _ _ (sym c.if-same.ensures) ∙ c.zero.ensures in
+    let few = room g.met.F.Field.laws p c.args.symbols (c.loop-place.place - 1) (c.args.symbols - c.loop-place.place) (omega (arith, c.loop-place.auto, c.loop-place-test.true))
+    c.loop-place.places.items sum c.loop-place.invariant.2 c.requires.sizes.0 (omega (arith, long, c.requires.sizes)) (λ z. c.requires.some (z ∙ ap (zeros f) long)) in
+    omega (arith, long, few, c.requires.sizes, c.loop-place.auto, c.len.ensures.value)
 
-pub bounds-places-found : goal.bounds-places-found
-bounds-places-found g c = omega (arith, fewer g c, c.requires.sizes, c.loop-exponent.auto)
+pub push-requires : goal.push-requires
+push-requires g c =
+    let F = g.F.Field in
+    let f = F.field in
+    let p = map F.mean c.args.terms.now in
+    let long = length-map c.args.terms.now F.mean in
+    let sum = ap (total f) (sym c.loop-place.invariant.0) ∙ sym c.next_value.ensures.value ∙ g.met.F.Field.laws.equal_no _ _ (sym c.if-same.ensures) ∙ c.zero.ensures in
+    let few = room g.met.F.Field.laws p c.args.symbols (c.loop-place.place - 1) (c.args.symbols - c.loop-place.place) (omega (arith, c.loop-place.auto, c.loop-place-test.true))
+    c.loop-place.places.items sum c.loop-place.invariant.2 c.requires.sizes.0 (omega (arith, long, c.requires.sizes)) (λ z. c.requires.some (z ∙ ap (zeros f) long)) in
+    (omega arith, omega (arith, long, few, c.requires.sizes))
 
-pub bounds-points-found : goal.bounds-points-found
-bounds-points-found g c = omega (arith, fewer g c, c.requires.sizes, c.loop-exponent.auto)
-
-pub loop-exponent-preserved : goal.loop-exponent-preserved
-loop-exponent-preserved g c =
+pub loop-place-preserved : goal.loop-place-preserved
+loop-place-preserved g c =
     let F = g.F.Field in
     let f = F.field in
     let laws = g.met.F.Field.laws in
-    let e = c.loop-exponent.exponent in
-    let found = c.loop-exponent.found in
+    let n = c.args.symbols in
+    let k = c.loop-place.place - 1 in
+    let e = n - c.loop-place.place in
+    let here : k + e + 1 ≡ n = omega (arith, c.loop-place.auto, c.loop-place-test.true) in
+    let next : e + 1 ≡ n - (c.loop-place.place - 1) = omega (arith, c.loop-place.auto, c.loop-place-test.true) in
+    let places = c.loop-place.places.items in
     let p = map F.mean c.args.terms.now in
     let long = length-map c.args.terms.now F.mean in
     let power = pow f f.root e in
-    let sum = c.next_value.ensures.value ∙ ap (total f) c.loop-exponent.invariant.0 in
-    let next-terms = c.next_value.ensures.next ∙ ap (terms_of f f.root) c.loop-exponent.invariant.0 ∙ terms_terms laws power f.root p ∙ ap (λ (k : ℕ). terms_of f (pow f f.root k) p) (sym (add-one e)) in
-    let next-point = c.times_root_power-point.ensures ∙ ap₂ f.mul c.loop-exponent.invariant.1 (laws.mul-one f.root) ∙ laws.mul_comm power f.root ∙ ap (pow f f.root) (sym (add-one e)) in
-    elim c.if-same.branch [
+    let more : pow f f.root (e + 1) ≡ f.mul f.root power = ap (pow f f.root) (add-one e) in
+    let sum = c.next_value.ensures.value ∙ ap (total f) c.loop-place.invariant.0 in
+    let terms = c.next_value.ensures.next ∙ ap (terms_of f f.root) c.loop-place.invariant.0 ∙ terms_terms laws power f.root p ∙ ap (λ x. terms_of f x p) (sym more) in
+    let point-now = c.times_root_power-point.ensures ∙ ap₂ f.mul c.loop-place.invariant.1 (laws.mul-one f.root) ∙ laws.mul_comm power f.root ∙ sym more in
+    subst (λ (m : ℕ). map F.mean c.next_value.new.terms ≡ terms_of f (pow f f.root m) p × F.mean c.times_root_power-point.result ≡ pow f f.root m
+    × Suspects f p n m c.if-same.places.items
+    × map F.mean (take (length c.if-same.places.items) c.if-same.points) ≡ map (point f n) c.if-same.places.items
+    × length c.if-same.places.items < length c.args.terms.now) next
+    (elim c.if-same.branch [
       | then-same w ↦
           let root = sym sum ∙ laws.equal_no _ _ (sym w.if-same.ensures) ∙ c.zero.ensures in
-          let more = room laws p c.args.symbols e c.loop-exponent-test.true c.loop-exponent.places found root
-          c.loop-exponent.invariant.2 c.requires.sizes.0 (omega (arith, long, c.requires.sizes)) (λ z. c.requires.some (z ∙ ap (zeros f) long)) (omega (arith, c.requires.sizes, c.loop-exponent.invariant.4, c.loop-exponent.auto)) in
-          let in-places : found < length c.loop-exponent.places = omega (arith, long, more, c.requires.sizes, c.loop-exponent.auto) in
-          let in-points : found < length c.loop-exponent.points = omega (arith, long, more, c.requires.sizes, c.loop-exponent.auto) in
-          let places-are = ap₂ (λ (k : ℕ) xs. take k xs) (sym w.found-is) (sym w.places-is) in (
-            next-terms,
-            next-point,
-            subst (Suspects f p c.args.symbols (e + 1)) places-are
-                (hit laws p c.args.symbols e c.loop-exponent-test.true c.loop-exponent.places found root c.loop-exponent.invariant.2 in-places),
-            ap₂ (λ (k : ℕ) xs. map F.mean (take k xs)) w.found-is w.points-is
-                ∙ points-next laws p c.args.symbols e c.loop-exponent-test.true c.loop-exponent.places found root c.loop-exponent.invariant.2
-                F.mean c.loop-exponent.points c.loop-exponent.point in-points in-places c.loop-exponent.invariant.1 c.loop-exponent.invariant.3
-                ∙ ap (map (point f c.args.symbols)) places-are,
-            omega (arith, w.found-is, more, long),
+          let few = room laws p n k e here places root c.loop-place.invariant.2 c.requires.sizes.0 (omega (arith, long, c.requires.sizes)) (λ z. c.requires.some (z ∙ ap (zeros f) long)) in
+          let inside : length places < length c.loop-place.points = omega (arith, long, few, c.requires.sizes, c.loop-place.auto) in
+          let pushed = ap (λ v. v.items) w.places-is ∙ w.push.ensures.items in (
+            terms,
+            point-now,
+            rw pushed (hit laws p n k e here places root c.loop-place.invariant.2),
+            rw (pushed, w.points-is, w.len.ensures.value)
+                (points-next laws p n k e here places root c.loop-place.invariant.2 F.mean c.loop-place.points c.loop-place.point inside c.loop-place.invariant.1 c.loop-place.invariant.3),
+            rw pushed (omega (arith, long, few, length-append places (k ∷ []))),
           )
       | else-same w ↦
-          let places-are = ap₂ (λ (k : ℕ) xs. take k xs) (sym w.found-is) (sym w.places-is) in (
-            next-terms,
-            next-point,
-            subst (Suspects f p c.args.symbols (e + 1)) places-are
-                (miss laws p c.args.symbols e c.loop-exponent-test.true (take found c.loop-exponent.places)
-                (λ z. unequal laws _ _ (sym c.same.ensures ∙ w.if-same.false) (sum ∙ z ∙ sym c.zero.ensures)) c.loop-exponent.invariant.2),
-            ap₂ (λ (k : ℕ) xs. map F.mean (take k xs)) w.found-is w.points-is ∙ c.loop-exponent.invariant.3 ∙ ap (map (point f c.args.symbols)) places-are,
-            omega (arith, w.found-is, c.loop-exponent.invariant.4),
+          let same = ap (λ v. v.items) w.places-is in (
+            terms,
+            point-now,
+            rw same (miss laws p n k e here places (λ z. unequal laws _ _ (sym c.same.ensures ∙ w.if-same.false) (sum ∙ z ∙ sym c.zero.ensures)) c.loop-place.invariant.2),
+            rw (same, w.points-is) c.loop-place.invariant.3,
+            rw same c.loop-place.invariant.4,
           )
-    ]
+    ])
+
+pub returns-clause-places : goal.returns-clause-places
+returns-clause-places g c =
+    let e : c.args.symbols - c.loop-place.place ≡ c.args.symbols = omega (arith, c.loop-place-test.false) in
+    subst (λ (m : ℕ). Suspects g.F.Field.field (map g.F.Field.mean c.args.terms.now) c.args.symbols m c.loop-place.places.items) e c.loop-place.invariant.2

@@ -1,25 +1,12 @@
 use Rattle.std.proofs.Common.{◌≡◌, ℕ, ◌-◌, ◌%◌, ◌<◌, map, length, get_or, set, sym, ap, ◌∙◌, ap₂, arith, take_all}
 use lib.ListN.{length-map}
 use lib.Seq.{map-set}
+use Rattle.std.proofs.lemmas.List.{get_or-map}
 use Rattle.gf.specs.Theory.{pow}
 use Rattle.codes.specs.Decoding.{terms_of, total}
-use Rattle.codes.proofs.Registers.{advance, next_as_was, whole, read}
+use Rattle.codes.proofs.Registers.{advance, next_as_was, whole}
 use Rattle.codes.proofs.Searching.{length-terms_of, terms_at, total-next}
 use Rattle.codes.proofs.locator.next_value.Goals as goal
-
-pub returns : goal.returns
-returns g c =
-    let F = g.F.Field in
-    let old = map F.mean c.args.terms.now in
-    let new = terms_of F.field F.field.root old in
-    let end = length-map c.args.terms.now F.mean in
-    record {
-      value = c.loop-k.invariant.0 ∙ ap (total F.field) (take_all c.loop-k.k old (omega (arith, end, c.loop-k-test.false)));
-      next =
-          c.loop-k.invariant.1
-          ∙ whole F.field.zero new old c.loop-k.k (omega (arith, end, length-terms_of F.field F.field.root old, c.loop-k-test.false))
-          (omega (arith, end, c.loop-k-test.false));
-    }
 
 pub loop-k-preserved : goal.loop-k-preserved
 loop-k-preserved g c =
@@ -29,9 +16,10 @@ loop-k-preserved g c =
     let old = map F.mean c.args.terms.now in
     let new = terms_of f f.root old in
     let end = length-map c.args.terms.now F.mean in
-    let here : k < length old = omega (arith, end, c.loop-k-test.true) in
+    let inside : k < length c.loop-k.terms = omega (arith, c.loop-k.auto, c.loop-k-test.true) in
+    let here : k < length old = omega (arith, end, c.loop-k.auto, inside) in
     let symbol =
-    read f F.mean c.loop-k.terms k c.index-terms-k.result (omega (arith, c.loop-k.auto.terms, c.loop-k-test.true)) c.index-terms-k.is
+    sym (get_or-map F.mean c.loop-k.terms k c.index-terms-k.result f.zero inside)
     ∙ ap (λ xs. get_or xs k f.zero) c.loop-k.invariant.1
     ∙ next_as_was f.zero new old k (length-terms_of f f.root old) (omega arith) in
     let power : (length c.args.terms.now - 1 - k) % 16 ≡ length old - 1 - k = omega (arith, end, c.requires) in (
@@ -41,3 +29,19 @@ loop-k-preserved g c =
           (c.times_root_power.ensures ∙ ap₂ (λ x (n : ℕ). f.mul x (pow f f.root n)) symbol power ∙ sym (terms_at f f.root old k here))
           ∙ advance f.zero new old k (length-terms_of f f.root old) here,
     )
+
+pub returns-clause-value : goal.returns-clause-value
+returns-clause-value g c =
+    let F = g.F.Field in
+    let old = map F.mean c.args.terms.now in
+    c.loop-k.invariant.0 ∙ ap (total F.field) (take_all c.loop-k.k old (omega (arith, length-map c.args.terms.now F.mean, c.loop-k.auto, c.loop-k-test.false)))
+
+pub returns-clause-next : goal.returns-clause-next
+returns-clause-next g c =
+    let F = g.F.Field in
+    let old = map F.mean c.args.terms.now in
+    let new = terms_of F.field F.field.root old in
+    let end = length-map c.args.terms.now F.mean in
+    c.loop-k.invariant.1
+    ∙ whole F.field.zero new old c.loop-k.k (omega (arith, end, length-terms_of F.field F.field.root old, c.loop-k.auto, c.loop-k-test.false))
+    (omega (arith, end, c.loop-k.auto, c.loop-k-test.false))

@@ -1,8 +1,0 @@
-use Rattle.codes.specs.Elimination.{cells, entries, Solved}
-use Rattle.codes.proofs.elimination.substitute.Given as goal
-
--- the rows from here on send the vector to zero
-abbrev pub invariant-loop-row : goal.invariant-loop-row
-invariant-loop-row g l =
-    let F = g.F.Field in
-    Solved F.field l.rows l.width l.free l.row (cells F.field F.mean l.width l.matrix) (entries F.field F.mean l.vector)
