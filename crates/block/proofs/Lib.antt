@@ -3,7 +3,6 @@ pub mod Dividing
 pub mod Packing
 pub mod Reading
 pub mod Starts
-pub mod Opening
 pub mod Refusing
 pub mod Units
 pub mod Tiling

@@ -2,7 +2,7 @@
 use Rattle.std.proofs.Common.{◌≡◌, ℕ, zero, suc, ◌+◌, ◌-◌, ◌*◌, ◌/◌, ◌%◌, ◌^◌, ◌<◌, ◌≤◌, List, get_or, sym, ap, ◌∙◌, ap₂, add-zero, add_assoc, add-suc, mul_assoc, pow-suc, div-one, arith, lit<, lit≤, pow_pos}
 use native.Mathlib.Nat.{mod-one, pow-zero, div-div-eq-div-mul}
 use lib.Arith.{mod-mul}
-use Rattle.block.specs.Bytes.{bit, unsigned}
+use Rattle.block.specs.Bytes.{bit, unsigned, word}
 
 -- a number in two parts
 pub unsigned_split : (b : List ℕ) (from v w : ℕ) → unsigned b from (v + w) ≡ unsigned b from v * 2 ^ w + unsigned b (from + v) w
@@ -59,26 +59,35 @@ unsigned_within b j o (suc w) h =
 pub unsigned_lower : (b : List ℕ) (j : ℕ) → unsigned b (8 * j + 4) 4 ≡ get_or b j 0 % 16
 unsigned_lower b j = unsigned_within b j 4 4 (lit≤ tt) ∙ ap (λ (x : ℕ). x % 16) (div-one (get_or b j 0))
 
--- the packed number that begins with a byte
-pub unsigned_first : (b : List ℕ) (j : ℕ) → get_or b j 0 < 256 → get_or b (j + 1) 0 < 256
-    → unsigned b (8 * j) 12 ≡ get_or b j 0 * 16 + get_or b (j + 1) 0 / 16
+-- the packed number that begins with a byte: the upper twelve bits of two bytes
+pub unsigned_first : (b : List ℕ) (j : ℕ) → get_or b j 0 < 256 → get_or b (j + 1) 0 < 256 → unsigned b (8 * j) 12 ≡ word b j / 16
 unsigned_first b j h k =
     unsigned_split b (8 * j) 8 4
     ∙ ap₂ (λ (m n : ℕ). m * 16 + n)
     (ap (λ (from : ℕ). unsigned b from 8) (sym (add-zero (8 * j))) ∙ unsigned_within b j 0 8 (lit≤ tt) ∙ whole (get_or b j 0) h)
-    (ap (λ (from : ℕ). unsigned b from 4) next ∙ unsigned_within b (j + 1) 0 4 (lit≤ tt) ∙ omega arith)
+    (ap (λ (from : ℕ). unsigned b from 4) next ∙ unsigned_within b (j + 1) 0 4 (lit≤ tt) ∙ upper)
+    ∙ joined
   where
     next : 8 * j + 8 ≡ 8 * (j + 1) + 0
     next = omega arith
 
--- the packed number that begins in the middle of a byte
-pub unsigned_second : (b : List ℕ) (j : ℕ) → get_or b (j + 1) 0 < 256
-    → unsigned b (8 * j + 4) 12 ≡ get_or b j 0 % 16 * 256 + get_or b (j + 1) 0
+    upper : get_or b (j + 1) 0 / 2 ^ 4 % 2 ^ 4 ≡ get_or b (j + 1) 0 / 16
+    upper = omega arith
+
+    joined : get_or b j 0 * 16 + get_or b (j + 1) 0 / 16 ≡ (get_or b j 0 * 256 + get_or b (j + 1) 0) / 16
+    joined = omega arith
+
+-- the packed number that begins in the middle of a byte: the lower twelve bits of two bytes
+pub unsigned_second : (b : List ℕ) (j : ℕ) → get_or b (j + 1) 0 < 256 → unsigned b (8 * j + 4) 12 ≡ word b j % 4096
 unsigned_second b j k =
     unsigned_split b (8 * j + 4) 4 8
     ∙ ap₂ (λ (m n : ℕ). m * 256 + n)
     (unsigned_lower b j)
     (ap (λ (from : ℕ). unsigned b from 8) next ∙ unsigned_within b (j + 1) 0 8 (lit≤ tt) ∙ whole (get_or b (j + 1) 0) k)
+    ∙ joined
   where
     next : 8 * j + 4 + 4 ≡ 8 * (j + 1) + 0
     next = omega arith
+
+    joined : get_or b j 0 % 16 * 256 + get_or b (j + 1) 0 ≡ (get_or b j 0 * 256 + get_or b (j + 1) 0) % 4096
+    joined = omega arith

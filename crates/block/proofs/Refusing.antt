@@ -10,11 +10,11 @@ use Rattle.block.specs.Headers.{starts, fire_fits, fills, unless, of_block, layo
 use Rattle.block.specs.Stages.{spaced, parted, opened, blocked}
 
 -- where the size and the buffer are right, the other conditions decide
-pub past_block : {A : Type 0} (size : ℕ) (block : List ℕ) (done : Unit {0}) → Ok done ≡ blocked size block
+pub past_block : {A : Type 0} (size : ℕ) (block : List ℕ) → blocked size block ≡ Ok tt
     → (others : List (Bool × Refusal)) (value : A) → unless (of_block size block others) value ≡ unless others value
-past_block {A} size block done e others value = by (not (leb 1 size && leb size 24)) (not (eqb (length block) (120 * size))) e
+past_block {A} size block sized others value = by (not (leb 1 size && leb size 24)) (not (eqb (length block) (120 * size))) sized
   where
-    by : (a b : Bool) → Ok done ≡ cond a (Err refusals.Size) (cond b (Err refusals.Buffer) (Ok tt))
+    by : (a b : Bool) → cond a (Err refusals.Size) (cond b (Err refusals.Buffer) (Ok (tt {0}))) ≡ Ok (tt {0})
         → cond a (Err refusals.Size) (cond b (Err refusals.Buffer) (unless others value)) ≡ unless others value
     by true b e = absurd (let z : ◌≡◌ {A = ℕ} 0 1 = cc in omega arith)
     by false true e = absurd (let z : ◌≡◌ {A = ℕ} 0 1 = cc in omega arith)
@@ -60,5 +60,5 @@ module _ (size : ℕ) (block : List ℕ) where
   by_fire true = by_read (right (get_or block 2 0))
   by_fire false = refl
 
-  pub opened-header : (done : Unit {0}) → Ok done ≡ blocked size block → converted (opened size block) ≡ header size block
-  opened-header done e = by_fire (fire_fits block) ∙ sym (past_block size block done e (fires (fire_fits block)) (written size block))
+  pub opened-header : blocked size block ≡ Ok tt → converted (opened size block) ≡ header size block
+  opened-header sized = by_fire (fire_fits block) ∙ sym (past_block size block sized (fires (fire_fits block)) (written size block))

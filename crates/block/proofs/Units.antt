@@ -1,5 +1,6 @@
 -- Whether a unit's check is right, test by test.
-use Rattle.std.proofs.Common.{◌≡◌, ℕ, ◌+◌, ◌-◌, ◌≤◌, Bool, true, false, not, ◌&&◌, eqb, ltb, leb, List, [], ◌∷◌, length, get_or, take, drop, Ok, sym, refl, ap, ◌∙◌, ap₂, arith, le-leb, leb-true}
+use Rattle.std.proofs.Common.{◌≡◌, ℕ, ◌+◌, ◌-◌, ◌≤◌, Bool, true, false, not, ◌&&◌, eqb, ltb, leb, List, [], ◌∷◌, length, get_or, take, drop, Ok, Err, sym, refl, ap, ◌∙◌, ap₂, arith, le-leb, leb-true}
+use Rattle.gf.specs.declared.refusal.Refusal.{Refusal}
 use Rattle.gf.specs.declared.refusal.Refusal.TheVariants.{Index}
 use Rattle.block.specs.declared.header.Header.{Header}
 use Rattle.block.specs.declared.header.UnitPlace.{UnitPlace}
@@ -9,7 +10,7 @@ use Rattle.block.specs.Headers.{unless, unit_count, there, unit_at, check_fits, 
 use Rattle.block.specs.Stages.{blocked}
 use Rattle.block.proofs.Refusing.{past_block}
 
-module _ (h : Header) (block : List ℕ) (n : ℕ) (done : Unit {0}) (e : Ok done ≡ blocked h.size block) where
+module _ (h : Header) (block : List ℕ) (n : ℕ) (sized : blocked h.size block ≡ Ok tt) where
   abbrev begin : ℕ
   begin = get_or h.starts n 0
 
@@ -18,7 +19,16 @@ module _ (h : Header) (block : List ℕ) (n : ℕ) (done : Unit {0}) (e : Ok don
 
   good_past : good h block n ≡ unless ((not (there h n && leb next (length block)), Index) ∷ []) (check_fits h block n)
   good_past =
-      past_block h.size block done e ((not (there h n && leb next (length block)), Index) ∷ []) (check_fits h block n)
+      past_block h.size block sized ((not (there h n && leb next (length block)), Index) ∷ []) (check_fits h block n)
+
+  -- the header has it not
+  pub good_absent : (refusal : Refusal) → Err refusal ≡ unit_at h n → Err refusal ≡ good h block n
+  good_absent refusal e = by (there h n) e ∙ sym good_past
+    where
+      by : (present : Bool) → Err refusal ≡ unless {A = UnitPlace} ((not present, Index) ∷ []) (record { place = begin; length = next - begin - 2 })
+          → Err refusal ≡ unless ((not (present && leb next (length block)), Index) ∷ []) (check_fits h block n)
+      by true e = absurd (let z : ◌≡◌ {A = ℕ} 0 1 = cc in omega arith)
+      by false e = cc
 
   -- the header has it
   module _ (unit : UnitPlace) (present : Ok unit ≡ unit_at h n) where

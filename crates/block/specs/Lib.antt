@@ -4,3 +4,4 @@ pub mod Checks
 pub mod Layouts
 pub mod Headers
 pub mod Stages
+pub mod Texts

@@ -13,18 +13,32 @@ const ZERO: Gf2 = Gf2(0);
 
 const ONE: Gf2 = Gf2(1);
 
+// A check over bytes: the polynomial that divides them, and what is added sixteen times in front.
+struct CyclicCheck {
+    generator: [Gf2; 17],
+    start: Gf2,
+    ghost admits: { admitted gf2 (meanings generator) 16 ≡ true },
+}
+
 // x^16 + x^14 + x^13 + x^12 + x^11 + x^5 + x^3 + x^2 + x + 1
-const FIRE_GENERATOR: [Gf2; 17] = [
-    ONE, ZERO, ONE, ONE, ONE, ONE, ZERO, ZERO, ZERO, ZERO, ZERO, ONE, ZERO, ONE, ONE, ONE, ONE,
-];
+const FIRE: CyclicCheck = CyclicCheck {
+    generator: [
+        ONE, ZERO, ONE, ONE, ONE, ONE, ZERO, ZERO, ZERO, ZERO, ZERO, ONE, ZERO, ONE, ONE, ONE, ONE,
+    ],
+    start: ZERO,
+};
 
 // x^16 + x^12 + x^5 + 1
-const UNIT_GENERATOR: [Gf2; 17] = [
-    ONE, ZERO, ZERO, ZERO, ONE, ZERO, ZERO, ZERO, ZERO, ZERO, ZERO, ONE, ZERO, ZERO, ZERO, ZERO,
-    ONE,
-];
+const UNIT: CyclicCheck = CyclicCheck {
+    generator: [
+        ONE, ZERO, ZERO, ZERO, ONE, ZERO, ZERO, ZERO, ZERO, ZERO, ZERO, ONE, ZERO, ZERO, ZERO,
+        ZERO, ONE,
+    ],
+    start: ONE,
+};
 
 // The bits of a byte, the top bit first. A symbol means its lowest bit alone.
+#[tactic(auto, unfolding(crate::specs::Checks::byte_bits))]
 fn bits_of(byte: u8) -> [Gf2; 8]
     ensures { meanings result ≡ byte_bits byte }
 {
@@ -44,34 +58,35 @@ fn bits_of(byte: u8) -> [Gf2; 8]
 fn add_byte(byte: u8, register: &mut [Gf2; 16])
     ensures { meanings register.new ≡ over gf2 (meanings register.old) (byte_bits byte) }
 {
-    let bits = bits_of(byte);
-    for i in 0..8 {
-        register[i] = register[i].add(bits[i]);
+    // By its index, since a proof knows nothing of what is written through `iter_mut().zip(..)`.
+    for (place, bit) in bits_of(byte).iter().enumerate() {
+        register[place] = register[place].add(*bit);
     }
 }
 
-// Takes a byte into the division: it is added to the highest places, and eight places of zeros follow.
-fn take_in(byte: u8, generator: &[Gf2; 17], register: &mut [Gf2; 16])
-    requires { admitted gf2 (meanings generator.now) 16 ≡ true }
-    ensures { meanings register.new ≡ remainder_of gf2 (over gf2 (meanings register.old) (byte_bits byte) ++ zeros gf2 8) (meanings generator.now) }
-{
-    add_byte(byte, register);
-    let _ = continue_remainder(&[ZERO; 8], generator, register);
-}
-
-// The remainder of the bytes times x^16, with `start` added sixteen times in front.
-fn divide(bytes: &[u8], generator: &[Gf2; 17], start: Gf2) -> [Gf2; 16]
-    requires { admitted gf2 (meanings generator.now) 16 ≡ true }
-    ensures { meanings result ≡ remainder_of gf2 (covered (replicate 16 (bits 1 start.0)) bytes.now) (meanings generator.now) }
-{
-    let mut register = [start; 16];
-    for byte in bytes {
-        take_in(*byte, generator, &mut register);
+impl CyclicCheck {
+    // Takes a byte into the division: it is added to the highest places, and eight places of zeros follow.
+    fn take_in(&self, byte: u8, register: &mut [Gf2; 16])
+        ensures { meanings register.new ≡ remainder_of gf2 (over gf2 (meanings register.old) (byte_bits byte) ++ zeros gf2 8) (meanings self.now.generator) }
+    {
+        add_byte(byte, register);
+        let _ = continue_remainder(&[ZERO; 8], &self.generator, register);
     }
-    register
+
+    // The remainder of the bytes times x^16, with `start` added sixteen times in front.
+    fn remainder(&self, bytes: &[u8]) -> [Gf2; 16]
+        ensures { meanings result ≡ remainder_of gf2 (covered (replicate 16 (bits 1 self.now.start.0)) bytes.now) (meanings self.now.generator) }
+    {
+        let mut register = [self.start; 16];
+        for byte in bytes {
+            self.take_in(*byte, &mut register);
+        }
+        register
+    }
 }
 
 // The number that the bits write, the top bit first.
+#[tactic(auto, using(crate::proofs::Packing::word_fits, crate::proofs::Packing::symbol_more))]
 fn packed(symbols: &[Gf2; 16]) -> u16
     ensures { result ≡ binary 0 (meanings symbols.now) }
 {
@@ -82,35 +97,16 @@ fn packed(symbols: &[Gf2; 16]) -> u16
     word
 }
 
-// The number that the complements of the bits write.
-fn packed_complement(symbols: &[Gf2; 16]) -> u16
-    ensures { result ≡ binary 0 (map (gf2.add gf2.one) (meanings symbols.now)) }
-{
-    !packed(symbols)
-}
-
-fn fire_remainder(bytes: &[u8]) -> [Gf2; 16]
-    ensures { meanings result ≡ remainder_of gf2 (polynomial bytes.now ++ zeros gf2 16) fire_generator }
-{
-    divide(bytes, &FIRE_GENERATOR, ZERO)
-}
-
-fn unit_remainder(unit: &[u8]) -> [Gf2; 16]
-    ensures { meanings result ≡ remainder_of gf2 (covered (replicate 16 gf2.one) unit.now) unit_generator }
-{
-    divide(unit, &UNIT_GENERATOR, ONE)
-}
-
 // The Fire word of bytes: the remainder of the bytes times x^16. In a header these are bytes 2 to 10.
 pub fn fire_word(bytes: &[u8]) -> u16
     ensures { result ≡ fire_word bytes.now }
 {
-    packed(&fire_remainder(bytes))
+    packed(&FIRE.remainder(bytes))
 }
 
 // The check that belongs to a unit: the complement of the remainder, which starts with sixteen ones.
 pub fn unit_check(unit: &[u8]) -> u16
     ensures { result ≡ unit_check unit.now }
 {
-    packed_complement(&unit_remainder(unit))
+    !packed(&UNIT.remainder(unit))
 }

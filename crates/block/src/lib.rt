@@ -5,6 +5,7 @@ mod checks;
 mod fault;
 mod header;
 mod parameters;
+mod sized_block;
 
 pub use checks::{fire_word, unit_check};
 pub use fault::HeaderFault;

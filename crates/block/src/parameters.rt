@@ -1,6 +1,7 @@
 // The parameters of a super frame, and the layout that follows from them.
-ghost use Rattle.std.specs.Prelude.{◌≡◌, ◌<◌};
+ghost use Rattle.std.specs.Prelude.{◌≡◌, ◌<◌, Some};
 ghost use Rattle.block.specs.Layouts.{flag, read, layout};
+ghost use Rattle.block.specs.Texts.{rate_text, mode_text, parameters_text};
 
 use super::fault::HeaderFault;
 use std::fmt;
@@ -39,34 +40,6 @@ pub struct Layout {
     pub aligned: bool,
 }
 
-// By the rate and whether sbr is used.
-const LAYOUTS: [[Layout; 2]; 2] = [
-    [
-        Layout {
-            units: 4,
-            header_length: 8,
-            aligned: true,
-        },
-        Layout {
-            units: 2,
-            header_length: 5,
-            aligned: true,
-        },
-    ],
-    [
-        Layout {
-            units: 6,
-            header_length: 11,
-            aligned: true,
-        },
-        Layout {
-            units: 3,
-            header_length: 6,
-            aligned: false,
-        },
-    ],
-];
-
 // Whether a bit of the byte is 1, the top bit being bit 0.
 fn is_set(byte: u8, place: u32) -> bool
     requires { place < 8 }
@@ -75,11 +48,13 @@ fn is_set(byte: u8, place: u32) -> bool
     (byte >> (7 - place)) % 2 == 1
 }
 
-impl Parameters {
-    // Takes the parameter byte apart.
-    pub fn from_byte(byte: u8) -> Result<Parameters, HeaderFault>
-        ensures { result ≡ read byte }
-    {
+impl TryFrom<u8> for Parameters {
+    type Error = HeaderFault;
+
+    ghost try_from_gives = { λ byte outcome. outcome ≡ read byte };
+
+    // Takes the parameter byte apart. The enums are made of a bit here, and by no `From<bool>`, so that it shows what a 1 means.
+    fn try_from(byte: u8) -> Result<Parameters, HeaderFault> {
         let reserved = is_set(byte, 0);
         let dac = if is_set(byte, 1) {
             DacRate::Khz48
@@ -105,27 +80,68 @@ impl Parameters {
             surround: byte % 8,
         })
     }
+}
 
+impl Parameters {
     pub fn layout(&self) -> Layout
         ensures { result ≡ layout self.now.dac self.now.sbr }
     {
-        LAYOUTS[self.dac as usize][self.sbr as usize]
+        match (self.dac, self.sbr) {
+            (DacRate::Khz32, true) => Layout {
+                units: 2,
+                header_length: 5,
+                aligned: true,
+            },
+            (DacRate::Khz48, true) => Layout {
+                units: 3,
+                header_length: 6,
+                aligned: false,
+            },
+            (DacRate::Khz32, false) => Layout {
+                units: 4,
+                header_length: 8,
+                aligned: true,
+            },
+            (DacRate::Khz48, false) => Layout {
+                units: 6,
+                header_length: 11,
+                aligned: true,
+            },
+        }
+    }
+}
+
+impl fmt::Display for DacRate {
+    ghost output = { λ rate. Some (rate_text rate) };
+
+    fn fmt<W: fmt::Write>(&self, f: &mut fmt::Formatter<W>) -> fmt::Result {
+        f.write_str(match self {
+            DacRate::Khz32 => "32 kHz",
+            DacRate::Khz48 => "48 kHz",
+        })
+    }
+}
+
+impl fmt::Display for ChannelMode {
+    ghost output = { λ mode. Some (mode_text mode) };
+
+    fn fmt<W: fmt::Write>(&self, f: &mut fmt::Formatter<W>) -> fmt::Result {
+        f.write_str(match self {
+            ChannelMode::Mono => "mono",
+            ChannelMode::Stereo => "stereo",
+        })
     }
 }
 
 impl fmt::Display for Parameters {
+    ghost output = { λ shown. Some (parameters_text shown) };
+
     fn fmt<W: fmt::Write>(&self, f: &mut fmt::Formatter<W>) -> fmt::Result {
-        let rate = match self.dac {
-            DacRate::Khz32 => "32 kHz",
-            DacRate::Khz48 => "48 kHz",
-        };
+        let dac = self.dac;
         let sbr = if self.sbr { "sbr" } else { "no sbr" };
-        let mode = match self.mode {
-            ChannelMode::Mono => "mono",
-            ChannelMode::Stereo => "stereo",
-        };
+        let mode = self.mode;
         let ps = if self.ps { "ps" } else { "no ps" };
         let surround = self.surround;
-        write!(f, "{rate}, {sbr}, {mode}, {ps}, surround {surround}")
+        write!(f, "{dac}, {sbr}, {mode}, {ps}, surround {surround}")
     }
 }

@@ -4,9 +4,9 @@ use codes::remainder;
 use gf::{Field, Gf16, Gf256, Refusal};
 
 fn print_products(rt: &HostRuntime) -> anyhow::Result<()> {
-    let byte = Gf256(0x80).mul(Gf256(2)).0;
+    let Gf256(byte) = Gf256(0x80).mul(Gf256(2));
     println!(rt; "Gf256: 80 times 2 is {byte:02X}")?;
-    let nibble = Gf16(8).mul(Gf16(2)).0;
+    let Gf16(nibble) = Gf16(8).mul(Gf16(2));
     println!(rt; "Gf16: 8 times 2 is {nibble:X}")?;
     Ok(())
 }
@@ -15,13 +15,10 @@ fn print_products(rt: &HostRuntime) -> anyhow::Result<()> {
 fn print_remainder(rt: &HostRuntime, divisor: &[Gf16; 3]) -> anyhow::Result<()> {
     let message = [Gf16(1), Gf16(0), Gf16(0)];
     let mut rest = [Gf16(0); 2];
-    let lead = divisor[0].0;
-    let middle = divisor[1].0;
-    let last = divisor[2].0;
+    let [Gf16(lead), Gf16(middle), Gf16(last)] = *divisor;
     match remainder(&message, divisor, &mut rest) {
         Ok(()) => {
-            let high = rest[0].0;
-            let low = rest[1].0;
+            let [Gf16(high), Gf16(low)] = rest;
             println!(rt; "Gf16: 1 0 0 by {lead} {middle} {last} leaves {high} {low}")?;
         }
         Err(refusal) => println!(rt; "Gf16: 1 0 0 by {lead} {middle} {last}: {refusal}")?,
@@ -40,7 +37,7 @@ fn print_checks(rt: &HostRuntime) -> anyhow::Result<()> {
 }
 
 fn print_parameters(rt: &HostRuntime, byte: u8) -> anyhow::Result<()> {
-    match Parameters::from_byte(byte) {
+    match Parameters::try_from(byte) {
         Ok(parameters) => {
             let units = parameters.layout().units;
             println!(rt; "parameters {byte:02X}: {parameters}, {units} units")?;

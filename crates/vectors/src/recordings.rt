@@ -1,12 +1,17 @@
 // Recordings of super frames, each compared with the text that describes it.
+ghost use Rattle.std.specs.Prelude.{◌≡◌, ◌*◌, ◌≤◌};
+
 use block::{Header, read_header};
 use std::alloc::{AllocError, Global};
 use std::fs;
 
 // A recording `NAME.dabp`, and the text `NAME.txt` beside it.
+#[derive(Clone, Copy)]
 struct Recording {
     name: &'static str,
+    // The subchannel index.
     size: usize,
+    ghost in_range: { (1 ≤ size) × (size ≤ 24) },
 }
 
 const RECORDINGS: [Recording; 5] = [
@@ -35,33 +40,19 @@ const RECORDINGS: [Recording; 5] = [
 // The starts in brackets, as the texts have them.
 fn starts_text(heap: Global, header: &Header) -> Result<String, AllocError> {
     let units = header.parameters.layout().units;
-    let mut text = String::from_str(heap, "[")?;
-    for (n, start) in header.starts.iter().enumerate() {
-        if n > units {
-            break;
-        }
-        if n > 0 {
-            text.push_str(", ")?;
-        }
-        let part = format!(in heap; "{start}")?;
-        text.push_str(part.as_str())?;
-    }
-    text.push_str("]")?;
-    Ok(text)
+    let starts = header.starts.get(..=units).unwrap_or_default();
+    format!(in heap; "{starts:?}")
 }
 
 // A letter for each unit: good, bad, or refused.
 fn checks_text(heap: Global, header: &Header, block: &[u8]) -> Result<String, AllocError> {
-    let mut text = String::new(heap);
-    for n in 0..header.parameters.layout().units {
-        let letter = match header.unit_is_good(block, n) {
-            Ok(true) => "g",
-            Ok(false) => "b",
-            Err(_) => "r",
-        };
-        text.push_str(letter)?;
-    }
-    Ok(text)
+    (0..header.parameters.layout().units)
+        .map(|n| match header.unit_is_good(block, n) {
+            Ok(true) => 'g',
+            Ok(false) => 'b',
+            Err(_) => 'r',
+        })
+        .collect(heap)
 }
 
 // What a text says of the header and the units of a block, or the refusal.
@@ -79,39 +70,53 @@ fn description(heap: Global, size: usize, block: &[u8]) -> Result<String, AllocE
     }
 }
 
-// Compares each block with its line of the text.
-fn compare(rt: &HostRuntime, recording: &Recording) -> anyhow::Result<()> {
-    let heap = rt.alloc();
-    let name = recording.name;
-    let size = recording.size;
-    let bytes = fs::read(rt, format!(in heap; "{name}.dabp")?.as_str())?;
-    let text = fs::read_to_string(rt, format!(in heap; "{name}.txt")?.as_str())?;
-    let mut blocks = bytes.as_slice().chunks(size.saturating_mul(120).max(1));
-    let mut described = 0u64;
-    let mut same = 0u64;
-    for line in text.as_str().lines() {
-        if !line.starts_with("sf ") {
-            continue;
-        }
-        described = described.saturating_add(1);
-        if let Some(block) = blocks.next() {
-            if line.contains(description(heap, size, block)?.as_str()) {
+impl Recording {
+    fn block_length(&self) -> usize
+        ensures { result ≡ 120 * self.now.size }
+    {
+        120 * self.size
+    }
+
+    // How many blocks come out as the lines say, each beside its own.
+    fn count_same(&self, heap: Global, lines: &[&str], bytes: &[u8]) -> Result<usize, AllocError> {
+        let blocks = bytes.chunks(self.block_length());
+        let mut same = 0usize;
+        for (line, block) in lines.iter().zip(blocks) {
+            if line.contains(description(heap, self.size, block)?.as_str()) {
                 same = same.saturating_add(1);
             }
         }
+        Ok(same)
     }
-    let rest = if blocks.next().is_some() {
-        ", and more are recorded"
-    } else {
-        ""
-    };
-    println!(rt; "{name}: {described} super frames described, {same} come out so{rest}")?;
-    Ok(())
+
+    // Compares each block with its line of the text.
+    fn compare(&self, rt: &HostRuntime) -> anyhow::Result<()> {
+        let heap = rt.alloc();
+        let name = self.name;
+        let bytes = fs::read(rt, format!(in heap; "{name}.dabp")?.as_str())?;
+        let text = fs::read_to_string(rt, format!(in heap; "{name}.txt")?.as_str())?;
+        let recorded = bytes.as_slice().chunks(self.block_length()).len();
+        let lines: Vec<&str> = text
+            .as_str()
+            .lines()
+            .filter(|line| line.starts_with("sf "))
+            .collect(heap)?;
+        let described = lines.len();
+        let same = self.count_same(heap, &lines, &bytes)?;
+        let rest = if recorded > described {
+            ", and more are recorded"
+        } else {
+            ""
+        };
+        println!(rt; "{name}: {described} super frames described, {same} come out so{rest}")?;
+        Ok(())
+    }
 }
 
 pub fn compare_all(rt: &HostRuntime) -> anyhow::Result<()> {
-    for recording in RECORDINGS.iter() {
-        compare(rt, recording)?;
+    // A slice, since no proof is made of a loop over the array itself: its elements hold a reference and a ghost field.
+    for recording in &RECORDINGS[..] {
+        recording.compare(rt)?;
     }
     Ok(())
 }
