@@ -1,27 +1,7 @@
 // Why the program ends with a message.
 use std::alloc::AllocError;
-use std::{fmt, io};
-
-#[derive(Drop)]
-pub enum Failure {
-    Usage,
-    Size(String),
-    NoFile(String),
-    Io(io::Error),
-    Memory,
-}
-
-impl From<io::Error> for Failure {
-    fn from(error: io::Error) -> Failure {
-        Failure::Io(error)
-    }
-}
-
-impl From<AllocError> for Failure {
-    fn from(_error: AllocError) -> Failure {
-        Failure::Memory
-    }
-}
+use std::io;
+use thiserror::Error;
 
 const USAGE: &str = "usage: dabopen SIZE [FILE]
 
@@ -29,17 +9,16 @@ Opens recorded super frames, and prints the parameters of each and whether its u
 SIZE is the subchannel index, 1 to 24: a block has 120 times as many bytes.
 FILE has block after block; without it they are read from standard input. Errors are not corrected.";
 
-impl fmt::Display for Failure {
-    fn fmt<W: fmt::Write>(&self, f: &mut fmt::Formatter<W>) -> fmt::Result {
-        match self {
-            Failure::Usage => write!(f, "{USAGE}"),
-            Failure::Size(word) => write!(
-                f,
-                "dabopen: SIZE is a subchannel index from 1 to 24, and not '{word}'"
-            ),
-            Failure::NoFile(path) => write!(f, "dabopen: the file '{path}' cannot be opened"),
-            Failure::Io(error) => write!(f, "dabopen: reading or writing failed: {error}"),
-            Failure::Memory => write!(f, "dabopen: there is not enough memory"),
-        }
-    }
+#[derive(Debug, Drop, Error)]
+pub enum Failure {
+    #[error("{USAGE}")]
+    Usage,
+    #[error("dabopen: SIZE is a subchannel index from 1 to 24, and not '{0}'")]
+    Size(String),
+    #[error("dabopen: the file '{0}' cannot be opened")]
+    NoFile(String),
+    #[error("dabopen: reading or writing failed: {0}")]
+    Io(#[from] io::Error),
+    #[error("dabopen: there is not enough memory")]
+    Memory(#[from] AllocError),
 }

@@ -1,46 +1,38 @@
 // Opens recorded super frames: prints what each header says, and whether each unit's check is right.
 #![tactic(auto)]
 
-ghost use Rattle.std.specs.Prelude.{◌≤◌, IfSome};
-
 mod failure;
 mod input;
 mod report;
+mod subchannel;
 
 use failure::Failure;
 use input::fill;
-use report::{Tally, report_block};
+use report::Report;
 use std::env;
 use std::fs::File;
 use std::io::Read;
 use std::process::ExitCode;
-
-// The subchannel index that a word names.
-fn parse_size(word: &str) -> Option<usize>
-    ensures { IfSome result (λ size. (1 ≤ size) × (size ≤ 24)) }
-{
-    let size = word.parse::<usize>().ok()?;
-    if size < 1 || size > 24 {
-        return None;
-    }
-    Some(size)
-}
+use subchannel::SubchannelIndex;
 
 // Opens block after block until the input ends.
-fn open_all<R: Read>(rt: &HostRuntime, size: usize, input: &mut R) -> Result<(), Failure>
-    requires { size ≤ 24 }
-{
-    let mut block = vec![in rt.alloc(); 0u8; 120 * size]?;
-    let mut tally = Tally::new();
+fn open_all<R: Read>(
+    rt: &HostRuntime,
+    size: SubchannelIndex,
+    input: &mut R,
+) -> Result<(), Failure> {
+    let mut block = vec![in rt.alloc(); 0u8; size.block_length()]?;
+    let mut report = Report::new(rt, size);
+    let mut unfinished = 0;
     for _ in 0..u64::MAX {
         let filled = fill(input, &mut block)?;
         if filled < block.len() {
-            tally.unfinished = filled;
+            unfinished = filled;
             break;
         }
-        report_block(rt, size, &block, &mut tally)?;
+        report.print_block(&block)?;
     }
-    println!(rt; "{tally}")?;
+    report.print_end(unfinished)?;
     Ok(())
 }
 
@@ -55,7 +47,7 @@ fn run(rt: &HostRuntime) -> Result<(), Failure> {
     if help || words.next().is_some() {
         return Err(Failure::Usage);
     }
-    let Some(size) = parse_size(size_word.as_str()) else {
+    let Ok(size) = size_word.as_str().parse() else {
         return Err(Failure::Size(size_word));
     };
     match file_word {

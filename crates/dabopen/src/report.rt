@@ -1,93 +1,113 @@
-// What is printed of a block, and the sum of it all.
-use block::{Header, read_header};
+// What is printed of each block, and of all of them.
+use crate::subchannel::SubchannelIndex;
+use block::{Header, UnitPlace, read_header};
+use gf::Refusal;
 use std::{fmt, io};
 
 // What was found so far.
-#[derive(Drop)]
-pub struct Tally {
-    pub blocks: u64,
-    pub opened: u64,
-    pub units: u64,
-    pub good: u64,
-    // The bytes behind the last whole block.
-    pub unfinished: usize,
+#[derive(Clone, Copy, Default)]
+struct Tally {
+    blocks: u64,
+    opened: u64,
+    units: u64,
+    good: u64,
 }
 
 impl Tally {
-    pub fn new() -> Tally {
-        Tally {
-            blocks: 0,
-            opened: 0,
-            units: 0,
-            good: 0,
-            unfinished: 0,
+    // Counts a block, and answers its number.
+    fn count_block(&mut self) -> u64 {
+        let number = self.blocks;
+        self.blocks = number.saturating_add(1);
+        number
+    }
+
+    fn count_opened(&mut self) {
+        self.opened = self.opened.saturating_add(1);
+    }
+
+    fn count_unit(&mut self, good: bool) {
+        self.units = self.units.saturating_add(1);
+        if good {
+            self.good = self.good.saturating_add(1);
         }
     }
 }
 
 impl fmt::Display for Tally {
     fn fmt<W: fmt::Write>(&self, f: &mut fmt::Formatter<W>) -> fmt::Result {
-        let blocks = self.blocks;
-        let opened = self.opened;
-        let units = self.units;
-        let good = self.good;
+        let Tally {
+            blocks,
+            opened,
+            units,
+            good,
+        } = self;
         write!(
             f,
             "{blocks} blocks, {opened} opened, {units} units, {good} good"
-        )?;
-        let unfinished = self.unfinished;
-        if unfinished > 0 {
-            write!(f, ", {unfinished} bytes unfinished")?;
+        )
+    }
+}
+
+// Prints what the blocks of a recording hold, one after the other.
+#[derive(Drop)]
+pub struct Report<'a> {
+    rt: &'a HostRuntime,
+    size: SubchannelIndex,
+    tally: Tally,
+}
+
+// Where a unit stands, and whether its check is right. The header and its block are two values, as the library has them.
+fn open_unit(header: &Header, block: &[u8], n: usize) -> Result<(UnitPlace, bool), Refusal> {
+    Ok((header.unit(n)?, header.unit_is_good(block, n)?))
+}
+
+impl<'a> Report<'a> {
+    pub fn new(rt: &'a HostRuntime, size: SubchannelIndex) -> Report<'a> {
+        Report {
+            rt,
+            size,
+            tally: Tally::default(),
+        }
+    }
+
+    fn print_unit(&mut self, header: &Header, block: &[u8], n: usize) -> io::Result<()> {
+        match open_unit(header, block, n) {
+            Ok((UnitPlace { place, length }, good)) => {
+                self.tally.count_unit(good);
+                let state = if good { "good" } else { "bad" };
+                println!(self.rt; "  unit {n}: place {place}, {length} bytes, {state}")
+            }
+            Err(refusal) => println!(self.rt; "  unit {n}: {refusal}"),
+        }
+    }
+
+    // Prints what the header says, and then each unit.
+    fn print_opened(&mut self, number: u64, header: &Header, block: &[u8]) -> io::Result<()> {
+        self.tally.count_opened();
+        let parameters = header.parameters;
+        let units = parameters.layout().units;
+        println!(self.rt; "block {number}: {parameters}, {units} units")?;
+        for n in 0..units {
+            self.print_unit(header, block, n)?;
         }
         Ok(())
     }
-}
 
-// Prints where unit `n` stands and whether its check is right.
-fn report_unit(
-    rt: &HostRuntime,
-    header: &Header,
-    block: &[u8],
-    n: usize,
-    tally: &mut Tally,
-) -> io::Result<()> {
-    let unit = match header.unit(n) {
-        Ok(unit) => unit,
-        Err(refusal) => return println!(rt; "  unit {n}: {refusal}"),
-    };
-    let good = match header.unit_is_good(block, n) {
-        Ok(good) => good,
-        Err(refusal) => return println!(rt; "  unit {n}: {refusal}"),
-    };
-    tally.units = tally.units.saturating_add(1);
-    if good {
-        tally.good = tally.good.saturating_add(1);
+    pub fn print_block(&mut self, block: &[u8]) -> io::Result<()> {
+        let number = self.tally.count_block();
+        match read_header(self.size.number(), block) {
+            Ok(header) => self.print_opened(number, &header, block),
+            Err(refusal) => println!(self.rt; "block {number}: {refusal}"),
+        }
     }
-    let place = unit.place;
-    let length = unit.length;
-    let state = if good { "good" } else { "bad" };
-    println!(rt; "  unit {n}: place {place}, {length} bytes, {state}")
-}
 
-// Prints what the block's header says, and then each unit.
-pub fn report_block(
-    rt: &HostRuntime,
-    size: usize,
-    block: &[u8],
-    tally: &mut Tally,
-) -> io::Result<()> {
-    let number = tally.blocks;
-    tally.blocks = tally.blocks.saturating_add(1);
-    let header = match read_header(size, block) {
-        Ok(header) => header,
-        Err(refusal) => return println!(rt; "block {number}: {refusal}"),
-    };
-    tally.opened = tally.opened.saturating_add(1);
-    let parameters = header.parameters;
-    let units = parameters.layout().units;
-    println!(rt; "block {number}: {parameters}, {units} units")?;
-    for n in 0..units {
-        report_unit(rt, &header, block, n, tally)?;
+    // Prints the sum of it all, with so many bytes behind the last whole block.
+    pub fn print_end(&self, unfinished: usize) -> io::Result<()> {
+        let tally = self.tally;
+        if unfinished > 0 {
+            println!(self.rt; "{tally}, {unfinished} bytes unfinished")
+        } else {
+            println!(self.rt; "{tally}")
+        }
     }
-    Ok(())
 }

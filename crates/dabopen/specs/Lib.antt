@@ -1,0 +1,2 @@
+-- What the program takes a word for.
+pub mod Subchannel
