@@ -18,6 +18,16 @@ operations k low last = record {
   reach = suc last;
 }
 
+-- the polynomial x ^ degree minus `low`, modulo which the powers of x come round to 1 after last + 1 steps
+pub record Modulus : Type 0 where
+  pub degree : ℕ
+  pub low : Bits degree
+  pub last : ℕ
+
+-- the field of residues modulo that polynomial
+abbrev pub residues : (m : Modulus) → Operations (Bits m.degree)
+residues m = operations m.degree m.low m.last
+
 -- x = 1
 unfoldable pub low2 : Bits 1
 unfolding bits

@@ -2,65 +2,63 @@
 ghost use Rattle.std.specs.Prelude.{◌≡◌, ℕ, ◌+◌, ◌^◌, ◌%◌, ◌<◌};
 ghost use Rattle.gf.specs.Theory.{Laws, pow};
 ghost use Rattle.gf.specs.Bits.{Bits, bits};
-ghost use Rattle.gf.specs.Fields.{operations};
+ghost use Rattle.gf.specs.Fields.{Modulus, residues};
 
 use super::field::Field;
 
-// The field of polynomials of `degree` bits modulo x ^ degree minus `low`. The powers of x come round to 1 after last + 1 steps.
+// A field of residues modulo a polynomial over the field of 2 elements.
+// Each field repeats the frame of from_byte, byte, order and root: an impl that a macro of the repository writes is refused.
 pub trait BinaryField: Copy {
-    ghost degree: { ℕ };
-
-    ghost low: { Bits degree };
-
-    ghost last: { ℕ };
+    ghost modulus: { Modulus };
 
     // The element that a stored symbol means.
-    ghost mean: { Self → Bits degree };
+    ghost mean: { Self → Bits modulus.degree };
 
     // Methods, and not From and Into: what these answer is a relation, and each field would have to prove laws of it.
     fn from_byte(byte: u8) -> Self
-        ensures { mean result ≡ bits degree byte };
+        ensures { mean result ≡ bits modulus.degree byte };
 
     fn byte(self) -> u8
-        ensures { bits degree result ≡ mean self };
+        ensures { bits modulus.degree result ≡ mean self };
 
     // How many elements there are: zero, and the powers of the root.
     fn order() -> usize
-        ensures rows { result ≡ 2 ^ degree }
-        ensures powers { result ≡ last + 2 };
+        ensures rows { result ≡ 2 ^ modulus.degree }
+        ensures powers { result ≡ modulus.last + 2 };
 
     fn root() -> Self
-        ensures { mean result ≡ (operations degree low last).root };
+        ensures { mean result ≡ (residues modulus).root };
 
     // The product with a power of the root below the sixteenth: the exponent counts modulo 16.
     fn root_product(self, exponent: usize) -> Self
-        ensures { mean result ≡ (operations degree low last).mul (mean self) (pow (operations degree low last) (operations degree low last).root (exponent % 16)) };
+        ensures { mean result ≡ (residues modulus).mul (mean self) (pow (residues modulus) (residues modulus).root (exponent % 16)) };
 
     // The element as a number: the lowest bits of the symbol.
     fn element(self) -> usize
-        ensures value { bits degree result ≡ mean self }
-        ensures below { result < 2 ^ degree }
+        ensures value { bits modulus.degree result ≡ mean self }
+        ensures below { result < 2 ^ modulus.degree }
     {
         self.byte() as usize % Self::order()
     }
 
-    ghost laws: { Laws (operations degree low last) };
+    ghost laws: { Laws (residues modulus) };
 }
 
 // How a binary field multiplies.
 pub trait BinaryProduct: BinaryField {
     fn product(self, other: Self) -> Self
-        ensures { Self.mean result ≡ (operations Self.degree Self.low Self.last).mul (Self.mean self) (Self.mean other) };
+        ensures { Self.mean result ≡ (residues Self.modulus).mul (Self.mean self) (Self.mean other) };
 
     // The inverse, and zero for zero.
     fn inverse(self) -> Self
-        ensures { Self.mean result ≡ (operations Self.degree Self.low Self.last).inv (Self.mean self) };
+        ensures { Self.mean result ≡ (residues Self.modulus).inv (Self.mean self) };
 }
 
+// root, mul, inv and times_root_power pass on to the field's own: one impl for all fields cannot be written in part.
 impl<B: BinaryProduct> Field for B {
-    ghost Element = { Bits B.degree };
+    ghost Element = { Bits B.modulus.degree };
 
-    ghost field = { operations B.degree B.low B.last };
+    ghost field = { residues B.modulus };
 
     ghost mean = { B.mean };
 

@@ -38,7 +38,8 @@ pub trait Field: Copy {
     fn inv(self) -> Self
         ensures { mean result ≡ field.inv (mean self) };
 
-    // Whether both symbols mean the same element.
+    // Whether both symbols mean the same element. No PartialEq: two symbols stored otherwise may mean one element, and `==` would hide
+    // that the test goes by elements.
     fn same(self, other: Self) -> bool
         ensures { result ≡ field.equal (mean self) (mean other) };
 

@@ -4,7 +4,7 @@ ghost use Rattle.gf.specs.Fields.{low16};
 ghost use Rattle.gf.specs.FieldLaws.{laws16, tables16, sound16};
 
 use super::binary::BinaryField;
-use super::tabled::TabledField;
+use super::tabled::{StoredTables, TabledField};
 use super::tables::{EXPONENTS_16, INVERSES_16, POWERS_16};
 
 // A symbol whose lowest four bits are the element.
@@ -12,11 +12,7 @@ use super::tables::{EXPONENTS_16, INVERSES_16, POWERS_16};
 pub struct Gf16(pub u8);
 
 impl BinaryField for Gf16 {
-    ghost degree = { 4 };
-
-    ghost low = { low16 };
-
-    ghost last = { 14 };
+    ghost modulus = { record { degree = 4; low = low16; last = 14 } };
 
     ghost mean = { λ s. bits 4 s.0 };
 
@@ -50,15 +46,11 @@ impl TabledField for Gf16 {
 
     ghost sound = { sound16 };
 
-    fn powers() -> &'static [u8] {
-        &POWERS_16
-    }
-
-    fn exponents() -> &'static [u16] {
-        &EXPONENTS_16
-    }
-
-    fn inverses() -> &'static [u8] {
-        &INVERSES_16
+    fn tables() -> StoredTables {
+        StoredTables {
+            powers: &POWERS_16,
+            exponents: &EXPONENTS_16,
+            inverses: &INVERSES_16,
+        }
     }
 }

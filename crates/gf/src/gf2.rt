@@ -10,11 +10,7 @@ use super::binary::{BinaryField, BinaryProduct};
 pub struct Gf2(pub u8);
 
 impl BinaryField for Gf2 {
-    ghost degree = { 1 };
-
-    ghost low = { low2 };
-
-    ghost last = { 0 };
+    ghost modulus = { record { degree = 1; low = low2; last = 0 } };
 
     ghost mean = { λ s. bits 1 s.0 };
 

@@ -5,7 +5,7 @@ ghost use Rattle.gf.specs.FieldLaws.{laws256, tables256, sound256};
 
 use super::binary::BinaryField;
 use super::products::ROOT_PRODUCTS_256;
-use super::tabled::TabledField;
+use super::tabled::{StoredTables, TabledField};
 use super::tables::{EXPONENTS_256, INVERSES_256, POWERS_256};
 
 // A symbol whose eight bits are the element. It lies in memory as its byte, so that C can lend rows of bytes.
@@ -14,11 +14,7 @@ use super::tables::{EXPONENTS_256, INVERSES_256, POWERS_256};
 pub struct Gf256(pub u8);
 
 impl BinaryField for Gf256 {
-    ghost degree = { 8 };
-
-    ghost low = { low256 };
-
-    ghost last = { 254 };
+    ghost modulus = { record { degree = 8; low = low256; last = 254 } };
 
     ghost mean = { λ s. bits 8 s.0 };
 
@@ -51,15 +47,11 @@ impl TabledField for Gf256 {
 
     ghost sound = { sound256 };
 
-    fn powers() -> &'static [u8] {
-        &POWERS_256
-    }
-
-    fn exponents() -> &'static [u16] {
-        &EXPONENTS_256
-    }
-
-    fn inverses() -> &'static [u8] {
-        &INVERSES_256
+    fn tables() -> StoredTables {
+        StoredTables {
+            powers: &POWERS_256,
+            exponents: &EXPONENTS_256,
+            inverses: &INVERSES_256,
+        }
     }
 }

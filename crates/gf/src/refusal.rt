@@ -61,82 +61,83 @@ impl Layer {
     }
 }
 
+// What is published of a refusal.
+#[derive(Clone, Copy)]
+struct Entry {
+    number: u8,
+    word: &'static str,
+    layer: Layer,
+    place: u8,
+}
+
+impl Entry {
+    fn new(number: u8, word: &'static str, layer: Layer, place: u8) -> Entry
+        ensures number { result.number ≡ number }
+        ensures word { result.word.now ≡ word.now }
+        ensures layer { result.layer ≡ layer }
+        ensures place { result.place ≡ place }
+    {
+        Entry {
+            number,
+            word,
+            layer,
+            place,
+        }
+    }
+}
+
 impl Refusal {
-    // A match: no cast takes an enum whose variants have fields.
+    // One row for each refusal. The numbers stand here, since no cast takes an enum whose variants have fields.
+    fn published(self) -> Entry
+        ensures number { result.number ≡ (entry self).number }
+        ensures word { result.word.now ≡ (entry self).word }
+        ensures layer { result.layer ≡ (entry self).layer }
+        ensures place { result.place ≡ (entry self).place }
+    {
+        match self {
+            Self::Size => Entry::new(1, "size", Layer::Arguments, 0),
+            Self::Buffer => Entry::new(2, "buffer", Layer::Arguments, 0),
+            Self::Settings => Entry::new(3, "settings", Layer::Arguments, 0),
+            Self::UnitLength => Entry::new(4, "unit length", Layer::Arguments, 0),
+            Self::Overfull => Entry::new(5, "overfull", Layer::Arguments, 0),
+            Self::Unfinished => Entry::new(6, "unfinished", Layer::Arguments, 0),
+            Self::Shape => Entry::new(7, "shape", Layer::Arguments, 0),
+            Self::BeyondRepair => Entry::new(8, "beyond repair", Layer::Row, 0),
+            Self::Fire => Entry::new(9, "Fire", Layer::Header, 0),
+            Self::Parameters => Entry::new(10, "parameters", Layer::Header, 2),
+            Self::Alignment { last_byte } => Entry::new(11, "alignment", Layer::Header, last_byte),
+            Self::Starts { number } => Entry::new(12, "starts", Layer::Header, number),
+            Self::Index => Entry::new(13, "index", Layer::Arguments, 0),
+            Self::UnitCheck { unit } => Entry::new(14, "unit check", Layer::Unit, unit),
+            Self::FrameLength => Entry::new(15, "frame length", Layer::Source, 0),
+            Self::Full => Entry::new(16, "full", Layer::Source, 0),
+            Self::Patience => Entry::new(17, "patience", Layer::Arguments, 0),
+        }
+    }
+
     pub fn number(self) -> u8
         ensures { result ≡ (entry self).number }
     {
-        match self {
-            Refusal::Size => 1,
-            Refusal::Buffer => 2,
-            Refusal::Settings => 3,
-            Refusal::UnitLength => 4,
-            Refusal::Overfull => 5,
-            Refusal::Unfinished => 6,
-            Refusal::Shape => 7,
-            Refusal::BeyondRepair => 8,
-            Refusal::Fire => 9,
-            Refusal::Parameters => 10,
-            Refusal::Alignment { .. } => 11,
-            Refusal::Starts { .. } => 12,
-            Refusal::Index => 13,
-            Refusal::UnitCheck { .. } => 14,
-            Refusal::FrameLength => 15,
-            Refusal::Full => 16,
-            Refusal::Patience => 17,
-        }
+        self.published().number
     }
 
     pub fn word(self) -> &'static str
         ensures { result.now ≡ (entry self).word }
     {
-        match self {
-            Refusal::Size => "size",
-            Refusal::Buffer => "buffer",
-            Refusal::Settings => "settings",
-            Refusal::UnitLength => "unit length",
-            Refusal::Overfull => "overfull",
-            Refusal::Unfinished => "unfinished",
-            Refusal::Shape => "shape",
-            Refusal::BeyondRepair => "beyond repair",
-            Refusal::Fire => "Fire",
-            Refusal::Parameters => "parameters",
-            Refusal::Alignment { .. } => "alignment",
-            Refusal::Starts { .. } => "starts",
-            Refusal::Index => "index",
-            Refusal::UnitCheck { .. } => "unit check",
-            Refusal::FrameLength => "frame length",
-            Refusal::Full => "full",
-            Refusal::Patience => "patience",
-        }
+        self.published().word
     }
 
     pub fn layer(self) -> Layer
         ensures { result ≡ (entry self).layer }
     {
-        match self {
-            Refusal::FrameLength | Refusal::Full => Layer::Source,
-            Refusal::BeyondRepair => Layer::Row,
-            Refusal::Fire
-            | Refusal::Parameters
-            | Refusal::Alignment { .. }
-            | Refusal::Starts { .. } => Layer::Header,
-            Refusal::UnitCheck { .. } => Layer::Unit,
-            _ => Layer::Arguments,
-        }
+        self.published().layer
     }
 
-    // The byte, start or unit that the refusal speaks of, and 0 where it speaks of none.
+    // The byte, start or unit that the refusal speaks of. Where it speaks of none it is 0, and not None: the number is published.
     pub fn place(self) -> u8
         ensures { result ≡ (entry self).place }
     {
-        match self {
-            Refusal::Parameters => 2,
-            Refusal::Alignment { last_byte } => last_byte,
-            Refusal::Starts { number } => number,
-            Refusal::UnitCheck { unit } => unit,
-            _ => 0,
-        }
+        self.published().place
     }
 }
 

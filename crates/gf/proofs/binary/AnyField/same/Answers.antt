@@ -5,5 +5,5 @@ use Rattle.gf.proofs.binary.AnyField.same.Goals as goal
 
 pub returns : goal.returns
 returns g c =
-    bits-equal_whole g.B.BinaryField.degree c.element.result c.element-2.result c.element.ensures.below c.element-2.ensures.below
-    ∙ ap₂ (equal g.B.BinaryField.degree) c.element.ensures.value c.element-2.ensures.value
+    bits-equal_whole g.B.BinaryField.modulus.degree c.element.result c.element-2.result c.element.ensures.below c.element-2.ensures.below
+    ∙ ap₂ (equal g.B.BinaryField.modulus.degree) c.element.ensures.value c.element-2.ensures.value

@@ -3,4 +3,4 @@ use Rattle.gf.specs.Numbers.{bits-zero}
 use Rattle.gf.proofs.binary.AnyField.zero.Goals as goal
 
 pub returns : goal.returns
-returns g c = c.from_byte.ensures ∙ bits-zero g.B.BinaryField.degree
+returns g c = c.from_byte.ensures ∙ bits-zero g.B.BinaryField.modulus.degree

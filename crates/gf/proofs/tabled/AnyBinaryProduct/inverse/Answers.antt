@@ -3,6 +3,6 @@ use Rattle.gf.proofs.tabled.AnyBinaryProduct.inverse.Goals as goal
 
 pub returns : goal.returns
 returns g c =
-    let f = g.T.BinaryField in
-    let is = inverted f.degree f.low f.last g.T.TabledField.tables g.met.T.TabledField.sound c.element.result c.element.ensures.below in
+    let m = g.T.BinaryField.modulus in
+    let is = inverted m.degree m.low m.last g.T.TabledField.tables g.met.T.TabledField.sound c.element.result c.element.ensures.below in
     cc
