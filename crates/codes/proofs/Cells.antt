@@ -1,18 +1,15 @@
 -- A read and a write of a vector by place, and of a row-by-row list by row and column.
-use Rattle.std.proofs.Common.{◌≡◌, ℕ, suc, ◌+◌, ◌*◌, ◌<◌, ◌≤◌, List, [], ◌∷◌, ◌++◌, map, length, get_or, take, drop, set, sym, ap, ◌∙◌, subst, ⊎_elim, mul-le-mul_right, suc-mul, arith}
+use borrow.Author.Count.{below_more}
+use Rattle.std.proofs.Common.{◌≡◌, ℕ, suc, ◌+◌, ◌*◌, ◌<◌, ◌≤◌, List, [], ◌∷◌, ◌++◌, map, length, get_or, take, drop, set, sym, ap, ◌∙◌, ⊎_elim, mul-le-mul_right, suc-mul, arith}
 use lib.ListN.{length-map, length-replicate, get_or-replicate}
 use mathlib.Core.List.{map-append}
 use Rattle.std.proofs.lemmas.List.{get_or_past, map-set, get_or-map, get_or-take, get_or-drop, get_or_append_left, get_or-set_same, get_or-set_other}
-use Rattle.std.proofs.lemmas.Bool.{cases_lt, cases_eq}
+use Rattle.std.proofs.lemmas.Bool.{cases_lt}
 use Rattle.gf.specs.Theory.{Operations}
 use Rattle.codes.specs.Polynomials.{zeros}
 use Rattle.std.specs.List.{SwappedAt}
 use Rattle.codes.specs.Elimination.{cells, entries, Put, Swapped}
 use Rattle.codes.proofs.Registers.{read}
-
--- what holds of all below n, and of n, holds of all below n + 1
-pub one_more : (P : ℕ → Type 0) (n : ℕ) → ((k : ℕ) → k < n → P k) → P n → (k : ℕ) → k < n + 1 → P k
-one_more P n h here k b = ⊎_elim (λ (e : k ≡ n). subst P (sym e) here) (λ (d : k ≡ n → ⊥). h k (omega (arith, d))) (cases_eq k n)
 
 -- a row lies within
 pub row_in : (m w i n : ℕ) → m * w ≤ n → i < m → i * w + w ≤ n
@@ -78,7 +75,7 @@ module _ {E S : Type 0} (f : Operations E) (mean : S → E) where
       → ((j : ℕ) → j < n → entries f mean xs j ≡ new j) × ((j : ℕ) → n ≤ j → entries f mean xs j ≡ old j) → mean x ≡ new n
       → ((j : ℕ) → j < n + 1 → entries f mean (set xs n x) j ≡ new j) × ((j : ℕ) → n + 1 ≤ j → entries f mean (set xs n x) j ≡ old j)
   place-next xs n x new old h so e = (
-    one_more (λ j. entries f mean (set xs n x) j ≡ new j) n (λ j b. place_other xs n j x (λ q. omega arith) ∙ so.0 j b) (place_set xs n x h ∙ e),
+    below_more (λ j. entries f mean (set xs n x) j ≡ new j) n (λ j b. place_other xs n j x (λ q. omega arith) ∙ so.0 j b) (place_set xs n x h ∙ e),
     λ j b. place_other xs n j x (λ q. omega arith) ∙ so.1 j (omega arith),
   )
 
@@ -131,9 +128,9 @@ module _ {E S : Type 0} (f : Operations E) (mean : S → E) where
       let elsewhere : (r c : ℕ) → c < w → (c ≡ n → ⊥) → cells f mean w ys r c ≡ cells f mean w xs r c =
       λ r c h d. t.2 (r * w + c) (λ e. columns_differ r p w c n h hn d (e ∙ eu)) (λ e. columns_differ r q w c n h hn d (e ∙ ev)) in
       record {
-        first = one_more (λ c. cells f mean w ys p c ≡ a q c) n (λ c h. elsewhere p c (omega arith) (λ e. omega arith) ∙ so.first c h)
+        first = below_more (λ c. cells f mean w ys p c ≡ a q c) n (λ c h. elsewhere p c (omega arith) (λ e. omega arith) ∙ so.first c h)
             (ap (entries f mean ys) (sym eu) ∙ t.0 ∙ ap (entries f mean xs) ev ∙ so.after q n hn (omega arith));
-        second = one_more (λ c. cells f mean w ys q c ≡ a p c) n (λ c h. elsewhere q c (omega arith) (λ e. omega arith) ∙ so.second c h)
+        second = below_more (λ c. cells f mean w ys q c ≡ a p c) n (λ c h. elsewhere q c (omega arith) (λ e. omega arith) ∙ so.second c h)
             (ap (entries f mean ys) (sym ev) ∙ t.1 ∙ ap (entries f mean xs) eu ∙ so.after p n hn (omega arith));
         rows = λ r c h dp dq. t.2 (r * w + c) (λ e. rows_differ r p w c n h hn dp (e ∙ eu)) (λ e. rows_differ r q w c n h hn dq (e ∙ ev)) ∙ so.rows r c h dp dq;
         after = λ r c h d. elsewhere r c h (λ e. omega arith) ∙ so.after r c h (omega arith);

@@ -1,13 +1,7 @@
 -- What the laws of a field say of zero, one, negatives and tests for equality.
-use Rattle.std.proofs.Common.{◌≡◌, Bool, true, false, sym, refl, ap, ◌∙◌, ap₂}
-use borrow.Author.Tests.{clash}
+use Rattle.std.proofs.Common.{◌≡◌, sym, ap, ◌∙◌, ap₂}
+use Rattle.std.specs.Cmp.{both_ways}
 use Rattle.gf.specs.Theory.{Operations, Laws}
-
--- two tests that say yes together
-agree : (b c : Bool) → (b ≡ true → c ≡ true) → (c ≡ true → b ≡ true) → b ≡ c
-agree true c g h = sym (g refl)
-agree false true g h = absurd (clash (h refl))
-agree false false g h = refl
 
 module _ {E : Type 0} {f : Operations E} (l : Laws f) where
   pub zero-add : (a : E) → f.add f.zero a ≡ a
@@ -73,4 +67,4 @@ module _ {E : Type 0} {f : Operations E} (l : Laws f) where
   -- tests of two equations that follow from each other
   pub equal_agree : (a b c d : E) → (a ≡ b → c ≡ d) → (c ≡ d → a ≡ b) → f.equal a b ≡ f.equal c d
   equal_agree a b c d g h =
-      agree (f.equal a b) (f.equal c d) (λ e. l.equal_yes c d (g (l.equal_no a b e))) (λ e. l.equal_yes a b (h (l.equal_no c d e)))
+      both_ways (f.equal a b) (f.equal c d) (λ e. l.equal_yes c d (g (l.equal_no a b e))) (λ e. l.equal_yes a b (h (l.equal_no c d e)))

@@ -1,4 +1,5 @@
 -- What solves the equations for the locator and for the values: sums of an elimination as recurrences and as power sums.
+use borrow.Author.Count.{below_more}
 use Rattle.std.proofs.Common.{◌≡◌, ℕ, zero, suc, ◌+◌, ◌-◌, ◌<◌, List, [], ◌∷◌, ◌++◌, map, length, get_or, take, sym, refl, ap, ◌∙◌, ap₂, arith, length-take-le, get_or-take}
 use mathlib.Core.List.{map-append}
 use lib.ListN.{length-map, get_or-replicate}
@@ -9,7 +10,6 @@ use Rattle.codes.specs.Elimination.{entries, sum, sent, Kernel}
 use Rattle.codes.specs.Decoding.{recurrence, Locator, Recurring, Columns, Normalized}
 use Rattle.codes.proofs.Elements.{zero-mul, add-mul}
 use Rattle.codes.proofs.Ring.{O, I, ◌⊕◌, ◌⊗◌, ⊝◌, ◌≐◌, ring₂, ring₄}
-use Rattle.codes.proofs.Cells.{one_more}
 use Rattle.codes.proofs.Linear.{sent_more, sent_vector}
 use Rattle.codes.proofs.PowerSums.{vandermonde}
 
@@ -112,7 +112,7 @@ module _ {E : Type 0} {f : Operations E} (l : Laws f) where
 
       last_nonzero : v m ≡ f.zero → ⊥
       unfolding entries v before
-      last_nonzero z = kernel.some (one_more (λ j. v j ≡ f.zero) m each z)
+      last_nonzero z = kernel.some (below_more (λ j. v j ≡ f.zero) m each z)
         where
           none : (i : ℕ) → i < length xs → power_sum f before xs i ≡ f.zero
           none i b =

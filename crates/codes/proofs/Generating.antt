@@ -1,4 +1,5 @@
 -- The generator in place: a factor taken in place by place from the back.
+use borrow.Author.Count.{below_more}
 use Rattle.std.proofs.Common.{◌≡◌, ℕ, zero, suc, ◌+◌, ◌<◌, ◌≤◌, true, List, [], ◌∷◌, map, length, get_or, sym, refl, ap, ◌∙◌, ap₂, ⊎_elim, add-one, arith, ext_get_or}
 use lib.ListN.{length-map}
 use Rattle.std.proofs.lemmas.List.{get_or_past}
@@ -8,9 +9,8 @@ use Rattle.codes.specs.Polynomials.{over, times}
 use Rattle.codes.specs.Division.{admitted}
 use Rattle.codes.specs.Codewords.{generator}
 use Rattle.codes.specs.Elimination.{entries}
-use Rattle.codes.specs.Filling.{Holds, Between}
+use Rattle.codes.specs.Filling.{Holds, FactorTaken}
 use Rattle.codes.proofs.Admission.{admitted_by_lead}
-use Rattle.codes.proofs.Cells.{one_more}
 use Rattle.codes.proofs.Lists.{length-times}
 use Rattle.codes.proofs.Ring.{O, I, ◌⊕◌, ◌⊗◌, ⊝◌, ◌≐◌, ring₁, ring₂, ring₃}
 use Rattle.codes.proofs.Words.{linear, generator-cons}
@@ -68,18 +68,18 @@ module _ {E : Type 0} {f : Operations E} (l : Laws f) where
 
   -- the loop that takes a factor in
 
-  pub factor_more : (r k : ℕ) (u v : ℕ → E) (x y : E) → Between f k (generator f r) (generator f (r + 1)) x u
+  pub factor_more : (r k : ℕ) (u v : ℕ → E) (x y : E) → FactorTaken f k (generator f r) (generator f (r + 1)) x u
       → v k ≡ f.add (u k) (f.neg (f.mul x (pow f f.root r))) → ((j : ℕ) → (j ≡ k → ⊥) → v j ≡ u j) → y ≡ u k
-      → Between f (k + 1) (generator f r) (generator f (r + 1)) y v
+      → FactorTaken f (k + 1) (generator f r) (generator f (r + 1)) y v
   factor_more r k u v x y s here other e = record {
-    low = one_more (λ j. v j ≡ get_or (generator f (r + 1)) j f.zero) k
+    low = below_more (λ j. v j ≡ get_or (generator f (r + 1)) j f.zero) k
         (λ j h. other j (λ q. omega arith) ∙ s.low j h)
         (here ∙ ap₂ (λ a c. f.add a (f.neg (f.mul c (pow f f.root r)))) (s.high k (omega arith)) s.before ∙ sym (generator_at r k));
     high = λ j h. other j (λ q. omega arith) ∙ s.high j (omega arith);
     before = e ∙ s.high k (omega arith) ∙ ap (λ (m : ℕ). get_or (f.zero ∷ generator f r) m f.zero) (sym (add-one k));
   }
 
-  pub factor_end : (r n : ℕ) (u : ℕ → E) (x : E) → r + 1 < n → Between f n (generator f r) (generator f (r + 1)) x u → Holds f (generator f (r + 1)) u
+  pub factor_end : (r n : ℕ) (u : ℕ → E) (x : E) → r + 1 < n → FactorTaken f n (generator f r) (generator f (r + 1)) x u → Holds f (generator f (r + 1)) u
   factor_end r n u x h s j =
       ⊎_elim (λ (k : j < n). s.low j k)
       (λ (k : n ≤ j). s.high j k ∙ generator_past r j (omega arith) ∙ sym (generator_past (r + 1) j (omega arith))) (cases_lt j n)

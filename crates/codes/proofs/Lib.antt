@@ -18,7 +18,6 @@ pub mod Suspects
 pub mod TakenOff
 pub mod Locating
 pub mod Cells
-pub mod Places
 pub mod Linear
 pub mod Moves
 pub mod Stages

@@ -19,6 +19,10 @@ module _ {E : Type 0} (f : Operations E) where
   length_over (a ∷ p) [] h = omega arith
   length_over (a ∷ p) (b ∷ q) h = ap suc (length_over p q (omega arith))
 
+  -- a multiple and its negative are as long
+  pub length-multiple : (c : E) (d : List E) → length (negs f (scale f c d)) ≡ length d
+  length-multiple c d = length-map (scale f c d) f.neg ∙ length-map d (f.mul c)
+
   pub length-times : (p : List E) (b : E) (q : List E) → length (times f p (b ∷ q)) ≡ length p + length q
   length-times [] b q = length-replicate (length q) f.zero ∙ sym (zero-add (length q))
   length-times (a ∷ p) b q =

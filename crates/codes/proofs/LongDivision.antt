@@ -8,17 +8,14 @@ use Rattle.gf.specs.Theory.{Operations, Laws}
 use Rattle.codes.specs.Polynomials.{zeros, scale, negs, over, plus, times, coefficient, Same}
 use Rattle.codes.specs.Division.{divided, stepped, remainder_of, Leaves, Remainder}
 use Rattle.codes.proofs.Elements.{lead}
-use Rattle.codes.proofs.Lists.{cons, length_over, length-times, over_front, over_comm, over_assoc, over_zeros, scale-zero, negs-zeros, add_back, take_back, over_swap, multiple-add, over-append}
+use Rattle.codes.proofs.Lists.{cons, length_over, length-multiple, length-times, over_front, over_comm, over_assoc, over_zeros, scale-zero, negs-zeros, add_back, take_back, over_swap, multiple-add, over-append}
 use Rattle.codes.proofs.Same.{leading, level}
 
 module _ {E : Type 0} {f : Operations E} (l : Laws f) where
-  length-multiple : (c : E) (d : List E) → length (negs f (scale f c d)) ≡ length d
-  length-multiple c d = length-map (scale f c d) f.neg ∙ length-map d (f.mul c)
-
   length_step : (c : E) (d w : List E) → length d ≤ length w → length (over f w (negs f (scale f c d))) ≡ length w
   length_step c d w h =
       ap length (over_comm l w (negs f (scale f c d)))
-      ∙ length_over f (negs f (scale f c d)) w (omega (arith, length-multiple c d))
+      ∙ length_over f (negs f (scale f c d)) w (omega (arith, length-multiple f c d))
 
   length-padded : (n : ℕ) (w : List E) → length (zeros f n ++ w) ≡ n + length w
   length-padded n w = length-append (zeros f n) w ∙ ap (λ (k : ℕ). k + length w) (length-replicate n f.zero)
@@ -103,7 +100,7 @@ module _ {E : Type 0} {f : Operations E} (l : Laws f) where
   divided_front d (suc n) m [] v e = absurd (omega arith)
   divided_front d (suc n) m (c ∷ w) v e =
       ap (λ (k : ℕ). divided f d k (c ∷ (w ++ v))) (suc-add n m)
-      ∙ ap (divided f d (n + m)) (over_front f w (negs f (scale f c d)) v (omega (arith, length-multiple c d)))
+      ∙ ap (divided f d (n + m)) (over_front f w (negs f (scale f c d)) v (omega (arith, length-multiple f c d)))
       ∙ divided_front d n m (over f w (negs f (scale f c d))) v (length_step c d w (omega arith) ∙ omega arith)
 
   -- a step with the next symbol coming in
@@ -112,7 +109,7 @@ module _ {E : Type 0} {f : Operations E} (l : Laws f) where
   divided-next d n [] m v e h = absurd (omega arith)
   divided-next d n (c ∷ r) m v e h =
       ap (divided f d n)
-      (sym (over_front f (r ++ (m ∷ [])) (negs f (scale f c d)) v (omega (arith, length-multiple c d, length-append r (m ∷ []))))
+      (sym (over_front f (r ++ (m ∷ [])) (negs f (scale f c d)) v (omega (arith, length-multiple f c d, length-append r (m ∷ []))))
       ∙ ap (λ w. over f w (negs f (scale f c d))) (append_snoc r m v))
 
   -- one more symbol of a message is taken in
@@ -246,7 +243,7 @@ module _ {E : Type 0} {f : Operations E} (l : Laws f) where
       level_steps : (a b : E) (u v : List E) → length u ≡ length v
           → length (over f u (negs f (scale f a d))) ≡ length (over f v (negs f (scale f b d)))
       level_steps a b u v h =
-          length-longer u (negs f (scale f a d)) ∙ ap₂ max h (length-multiple a d ∙ sym (length-multiple b d))
+          length-longer u (negs f (scale f a d)) ∙ ap₂ max h (length-multiple f a d ∙ sym (length-multiple f b d))
           ∙ sym (length-longer v (negs f (scale f b d)))
 
   -- the remainder of a sum is the sum of the remainders

@@ -6,7 +6,7 @@ use Rattle.std.proofs.lemmas.List.{get_or-map, get_or_append_left, drop_all}
 use Rattle.gf.specs.Theory.{Operations}
 use Rattle.codes.specs.Polynomials.{scale, negs, over}
 use Rattle.codes.specs.Division.{stepped}
-use Rattle.codes.proofs.Lists.{length_over}
+use Rattle.codes.proofs.Lists.{length_over, length-multiple}
 
 module _ {E : Type 0} (z : E) where
   -- the next place is written
@@ -52,18 +52,15 @@ module _ {E : Type 0} (f : Operations E) where
   length_in : (r : List E) (m : E) → length (r ++ (m ∷ [])) ≡ suc (length r)
   length_in r m = length-append r (m ∷ []) ∙ omega arith
 
-  length-multiple : (c : E) (d : List E) → length (negs f (scale f c d)) ≡ length d
-  length-multiple c d = length-map (scale f c d) f.neg ∙ length-map d (f.mul c)
-
   module _ (d : List E) (c : E) (r : List E) (m : E) (e : suc (length r) ≡ length d) where
     length-stepped-cons : length (stepped f d (c ∷ r) m) ≡ length d
     length-stepped-cons =
-        length_over f (r ++ (m ∷ [])) (negs f (scale f c d)) (omega (arith, length_in r m, length-multiple c d)) ∙ length-multiple c d
+        length_over f (r ++ (m ∷ [])) (negs f (scale f c d)) (omega (arith, length_in r m, length-multiple f c d)) ∙ length-multiple f c d
 
     stepped-cons_at : (j : ℕ) → j < length d
         → get_or (stepped f d (c ∷ r) m) j f.zero ≡ f.add (get_or (r ++ (m ∷ [])) j f.zero) (f.neg (f.mul c (get_or d j f.zero)))
     stepped-cons_at j h =
-        get_or_over (r ++ (m ∷ [])) (negs f (scale f c d)) j (omega (arith, length_in r m)) (omega (arith, length-multiple c d))
+        get_or_over (r ++ (m ∷ [])) (negs f (scale f c d)) j (omega (arith, length_in r m)) (omega (arith, length-multiple f c d))
         ∙ ap (f.add (get_or (r ++ (m ∷ [])) j f.zero)) (multiple_at c d j h)
 
   pub length-stepped : (d r : List E) (m : E) → length r ≡ length d → 0 < length d → length (stepped f d r m) ≡ length d

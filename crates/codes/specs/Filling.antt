@@ -8,7 +8,7 @@ module _ {E : Type 0} (f : Operations E) where
   Holds p u = (j : ℕ) → u j ≡ slice_index_or p j f.zero
 
   -- the places before k hold what q does there, the others what p does, and x is what p has in front of k
-  pub record Between (k : ℕ) (p q : List E) (x : E) (u : ℕ → E) : Type 0 where
+  pub record FactorTaken (k : ℕ) (p q : List E) (x : E) (u : ℕ → E) : Type 0 where
     pub low : (j : ℕ) → j < k → u j ≡ slice_index_or q j f.zero
     pub high : (j : ℕ) → k ≤ j → u j ≡ slice_index_or p j f.zero
     pub before : x ≡ slice_index_or (f.zero ∷ p) k f.zero

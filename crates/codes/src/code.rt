@@ -1,6 +1,6 @@
 // The check code over every field: filling the checks of a word, and correcting a word.
-ghost use Rattle.std.specs.Prelude.{◌≡◌, ◌<◌, ◌≤◌, true, ◌&&◌, map, length};
-ghost use Rattle.codes.specs.Polynomials.{zeros, negs};
+ghost use Rattle.std.specs.Prelude.{◌≡◌, true, ◌&&◌, map, length};
+ghost use Rattle.codes.specs.Polynomials.{negs};
 ghost use Rattle.codes.specs.Codewords.{code_shape, work_shape, Filled, Encoded, Outcome, Correction, Vandermonde, SyndromesDecide, MinimumDistance};
 
 use crate::division::{clear, divide};
@@ -22,8 +22,7 @@ pub const WORK_SYMBOLS: usize = 512;
 fn has_shape<F: Field>(symbols: usize, checks: usize) -> bool
     ensures { result ≡ code_shape F.field symbols checks }
 {
-    1 <= checks
-        && checks <= MAX_CHECKS
+    (1..=MAX_CHECKS).contains(&checks)
         && checks < symbols
         && symbols <= F::reach()
         && symbols <= MAX_SYMBOLS

@@ -1,5 +1,5 @@
 // Long division over every field, of messages of any length, whole or in parts.
-ghost use Rattle.std.specs.Prelude.{◌≡◌, ◌+◌, ◌<◌, ◌≤◌, true, ◌++◌, map, length};
+ghost use Rattle.std.specs.Prelude.{◌≡◌, ◌<◌, true, ◌++◌, map, length};
 ghost use Rattle.codes.specs.Polynomials.{zeros};
 ghost use Rattle.codes.specs.Division.{admitted, divided, stepped, Remainder, Answered};
 
@@ -9,7 +9,8 @@ const MAX_DEGREE: usize = 16;
 
 // Takes the highest symbol off `rest`, and that multiple of the divisor with it; `symbol` comes in behind.
 // `tail` is the divisor without its leading one.
-// Each place takes what stands behind it, all in one pass: to turn the places first, by `rotate_left`, makes bits seven times as slow.
+// Each place takes what stands behind it, all in one pass: to turn the places first, by `rotate_left` or `copy_within`, makes the check of a
+// unit seven times as slow, and of what a loop over a `zip` has written no proof knows.
 fn step<F: Field>(tail: &[F], symbol: F, rest: &mut [F])
     requires { (length rest.old ≡ length tail.now) × (0 < length tail.now) }
     ensures { map F.mean rest.new ≡ stepped F.field (map F.mean tail.now) (map F.mean rest.old) (F.mean symbol) }
@@ -46,10 +47,11 @@ pub(crate) fn clear<F: Field>(symbols: &mut [F])
 fn is_admitted<F: Field>(divisor: &[F], places: usize) -> bool
     ensures { result ≡ admitted F.field (map F.mean divisor.now) places }
 {
-    1 <= places && places <= MAX_DEGREE && divisor.len() == places + 1 && divisor[0].same(F::one())
+    (1..=MAX_DEGREE).contains(&places) && divisor.len() == places + 1 && divisor[0].same(F::one())
 }
 
-// Divides what `rest` holds, with the message behind it. The three go by themselves, since the public calls are lent them so.
+// Divides what `rest` holds, with the message behind it. Divisor and rest are no struct: as with word and work in `code`, a proof would not
+// know what the rest holds where there is none.
 fn divide_behind<F: Field>(message: &[F], divisor: &[F], rest: &mut [F])
     requires { admitted F.field (map F.mean divisor.now) (length rest.old) ≡ true }
     ensures { Remainder F.field (map F.mean rest.old ++ map F.mean message.now) (map F.mean divisor.now) (map F.mean rest.new) }

@@ -6,7 +6,8 @@ use crate::division::clear;
 use gf::Field;
 
 // A matrix with more columns than rows on lent symbols, row after row; there may be more of them. Each method asks that its row and
-// column are there, and says that the shape stays: a type for a row's number would have to name its matrix.
+// column are there, since a type for a row's number would have to name its matrix, and says that the shape stays, since no field of a
+// struct is constant.
 #[derive(Drop)]
 pub(crate) struct Matrix<'a, F> {
     symbols: &'a mut [F],
@@ -97,7 +98,7 @@ impl<'a, F: Field> Matrix<'a, F> {
         (column..self.rows).find(|row| !self.is_zero(*row, column))
     }
 
-    // Exchanges two rows, column by column: a matrix lies in one slice, and what a loop over `chunks_mut` has written no proof knows.
+    // Exchanges two rows, column by column. `swap_with_slice` would ask for the slice in two parts, and for a case where both rows are one.
     fn swap_rows(&mut self, first: usize, second: usize)
         requires { (first < self.old.rows) × (second < self.old.rows) }
         ensures shape { SameShape self.old self.new }
@@ -110,8 +111,8 @@ impl<'a, F: Field> Matrix<'a, F> {
         }
     }
 
-    // Adds a multiple of row `pivot` to `row`, from column `pivot` on, so that `row` is zero in that column. The columns are counted, since
-    // both rows are parts of one slice, of which one is written.
+    // Adds a multiple of row `pivot` to `row`, from column `pivot` on, so that `row` is zero in that column. The columns are counted: of two
+    // parts of the slice, one would be gone through and the other still be read by the column.
     fn clear_row(&mut self, pivot: usize, row: usize)
         requires within { (pivot < self.old.rows) × ((row < self.old.rows) × (pivot < self.old.columns)) }
         requires other { row ≢ pivot }

@@ -1,5 +1,5 @@
 // What the errors of a word are, once their places are known: values with the right power sums.
-ghost use Rattle.std.specs.Prelude.{◌≡◌, ℕ, ◌+◌, ◌*◌, ◌<◌, ◌≤◌, map, length, take};
+ghost use Rattle.std.specs.Prelude.{◌≡◌, ℕ, ◌<◌, ◌≤◌, map, length, take};
 ghost use Rattle.codes.specs.Codewords.{Apart, power_sum};
 ghost use Rattle.codes.specs.Elimination.{cells, entries};
 ghost use Rattle.codes.specs.Matrices.{SameShape};

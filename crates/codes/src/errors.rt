@@ -1,5 +1,5 @@
 // The errors of a word: found from its syndromes, and taken off.
-ghost use Rattle.std.specs.Prelude.{◌≡◌, ℕ, ◌+◌, ◌*◌, ◌<◌, ◌≤◌, map, length, take};
+ghost use Rattle.std.specs.Prelude.{◌≡◌, ℕ, ◌<◌, ◌≤◌, map, length, take};
 ghost use Rattle.gf.specs.Theory.{pow};
 ghost use Rattle.arrayvec.specs.ArrayVec.{array_vec_len};
 ghost use Rattle.codes.specs.Codewords.{Apart, power_sum, Outcome};
@@ -35,7 +35,8 @@ fn take_all_off<F: Field>(syndromes: &mut [F], points: &[F], values: &[F])
     }
 }
 
-// Writes the values that errors at the points have if they account for the first syndromes, and takes those errors off all syndromes.
+// Writes the values that errors at the points have if they account for the first syndromes, and takes those errors off all syndromes. It
+// is lent the parts of a `Room`, since what a part holds is lost where it is lent as `&` through the struct.
 fn account_for<F: Field>(points: &[F], syndromes: &mut [F], matrix: &mut [F], values: &mut [F])
     requires sizes { (length points.now ≤ 8) × ((length points.now ≤ length syndromes.old) × ((length points.now < length values.old) × (length matrix.old ≡ 72))) }
     requires apart { Apart (map F.mean points.now) }
@@ -91,9 +92,9 @@ pub(crate) fn correct_errors<F: Field>(
 {
     let mut room = Room::new(work);
     let places = find_errors(word.len(), syndromes, &mut room);
+    let Room { vector, .. } = room;
     if !are_zero(syndromes) {
         return Err(Refusal::BeyondRepair);
     }
-    let Room { vector, .. } = room;
     Ok(correct_places(word, places.as_slice(), &vector[..places.len()]))
 }

@@ -22,8 +22,8 @@ fn fill_row<F: Field>(syndromes: &[F], matrix: &mut Matrix<F>, row: usize)
     ensures others { Others (matrix.old.rows + 1) (cells F.field F.mean (matrix.old.rows + 1) matrix.old.symbols.now) row (cells F.field F.mean (matrix.old.rows + 1) matrix.new.symbols.now) }
 {
     let degree = matrix.rows();
-    for (power, syndrome) in syndromes[row..row + degree + 1].iter().enumerate() {
-        matrix.put(row, degree - power, *syndrome);
+    for (column, syndrome) in syndromes[row..row + degree + 1].iter().rev().enumerate() {
+        matrix.put(row, column, *syndrome);
     }
 }
 
@@ -38,17 +38,20 @@ fn fill_rows<F: Field>(syndromes: &[F], matrix: &mut Matrix<F>)
     }
 }
 
-// Writes a locator polynomial of that degree: one that is not zero, and by which the syndromes recur.
-fn find_locator<F: Field>(syndromes: &[F], symbols: &mut [F], degree: usize, locator: &mut [F])
-    requires { (length locator.old ≡ degree + 1) × ((degree * 2 ≤ length syndromes.now) × (degree * (degree + 1) ≤ length symbols.old)) }
-    ensures { Locator F.field degree (entries F.field F.mean syndromes.now) (map F.mean locator.new) }
+// Writes a locator polynomial: one that is not zero, and by which the syndromes recur.
+fn find_locator<F: Field>(syndromes: &[F], symbols: &mut [F], locator: &mut [F])
+    requires sizes { (length syndromes.now ≤ 16) × (length symbols.old ≡ 72) }
+    requires long { length locator.old ≡ length syndromes.now / 2 + 1 }
+    ensures { Locator F.field (length syndromes.now / 2) (entries F.field F.mean syndromes.now) (map F.mean locator.new) }
 {
+    let degree = syndromes.len() / 2;
     let mut matrix = Matrix::new(symbols, degree, degree + 1);
     fill_rows(syndromes, &mut matrix);
     matrix.kernel_vector(locator);
 }
 
-// The sum of the terms of a polynomial, which then go on to the next power of the root.
+// The sum of the terms of a polynomial, which then go on to the next power of the root. The powers are counted from the front: of what a
+// loop over `iter_mut().rev()` has written no proof knows.
 fn next_value<F: Field>(terms: &mut [F]) -> F
     requires { (0 < length terms.old) × (length terms.old ≤ 16) }
     ensures value { F.mean result ≡ total F.field (map F.mean terms.old) }
@@ -88,7 +91,8 @@ fn find_places<F: Field>(
     places
 }
 
-// Finds the places of a word of so many symbols where alone there can be errors, and writes their points.
+// Finds the places of a word of so many symbols where alone there can be errors, and writes their points. The number of symbols is
+// within the reach: a type for it would be of one field, and no plainer than the clause.
 pub(crate) fn locate<F: Field>(
     symbols: usize,
     syndromes: &[F],
@@ -101,6 +105,6 @@ pub(crate) fn locate<F: Field>(
 {
     let degree = syndromes.len() / 2;
     let locator = &mut room.vector[..degree + 1];
-    find_locator(syndromes, room.matrix, degree, locator);
+    find_locator(syndromes, room.matrix, locator);
     find_places(symbols, locator, room.points)
 }

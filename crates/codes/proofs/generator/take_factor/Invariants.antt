@@ -1,7 +1,7 @@
 use Rattle.std.proofs.Common.{◌+◌}
 use Rattle.codes.specs.Codewords.{generator}
 use Rattle.codes.specs.Elimination.{entries}
-use Rattle.codes.specs.Filling.{Between}
+use Rattle.codes.specs.Filling.{FactorTaken}
 use Rattle.codes.proofs.generator.take_factor.Given as goal
 
 -- the places before the index hold the product, the others are as they were
@@ -9,4 +9,4 @@ abbrev pub invariant-loop-coefficient : goal.invariant-loop-coefficient
 invariant-loop-coefficient g l =
     let F = g.F.Field in
     let f = F.field in
-    Between f l.coefficient-index (generator f l.degree) (generator f (l.degree + 1)) (F.mean l.before) (entries f F.mean l.polynomial)
+    FactorTaken f l.coefficient-index (generator f l.degree) (generator f (l.degree + 1)) (F.mean l.before) (entries f F.mean l.polynomial)

@@ -1,4 +1,4 @@
-use Rattle.std.proofs.Common.{◌≡◌, ◌+◌, length, ◌∙◌, arith}
+use Rattle.std.proofs.Common.{◌≡◌, ◌+◌, ◌/◌, length, ◌∙◌, arith}
 use Rattle.codes.specs.Elimination.{cells, entries}
 use Rattle.codes.proofs.Equations.{locator_solved}
 use Rattle.codes.proofs.locator.find_locator.Goals as goal
@@ -6,7 +6,7 @@ use Rattle.codes.proofs.locator.find_locator.Goals as goal
 pub returns : goal.returns
 returns g c =
     let F = g.F.Field in
-    let t = c.args.degree in
+    let t = length c.args.syndromes.now / 2 in
     let rows = c.new-matrix.ensures.0 in
     let columns = c.new-matrix.ensures.1 in
     let long : length c.kernel_vector.new.vector ≡ t + 1 = omega (arith, c.kernel_vector.auto.vector, c.requires) in

@@ -3,7 +3,7 @@ use Rattle.gf.specs.Theory.{pow}
 use Rattle.codes.specs.Elimination.{entries}
 use Rattle.codes.proofs.Cells.{place_set, place_other}
 use Rattle.codes.proofs.Taking.{taken_more}
-use Rattle.codes.proofs.Places.{place_at}
+use Rattle.codes.proofs.Cells.{place_at}
 use Rattle.codes.proofs.syndromes.take_in.Goals as goal
 
 pub loop-i-preserved : goal.loop-i-preserved
