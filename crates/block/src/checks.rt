@@ -1,10 +1,10 @@
 // The Fire word and the unit check: one division over bits, byte by byte.
-ghost use Rattle.std.specs.Prelude.{◌≡◌, true, ◌++◌, map, replicate};
+ghost use Rattle.std.specs.Prelude.{◌≡◌, true, ◌++◌, replicate};
 ghost use Rattle.gf.specs.Bits.{bits};
 ghost use Rattle.gf.specs.Fields.{gf2};
 ghost use Rattle.codes.specs.Polynomials.{zeros, over};
 ghost use Rattle.codes.specs.Division.{admitted, remainder_of};
-ghost use Rattle.block.specs.Checks.{byte_bits, polynomial, binary, covered, fire_generator, unit_generator, fire_word, unit_check, meanings};
+ghost use Rattle.block.specs.Checks.{byte_bits, binary, covered, fire_word, unit_check, meanings};
 
 use codes::continue_remainder;
 use gf::{Field, Gf2};
@@ -37,7 +37,8 @@ const UNIT: CyclicCheck = CyclicCheck {
     start: ONE,
 };
 
-// The bits of a byte, the top bit first. A symbol means its lowest bit alone.
+// The bits of a byte, the top bit first. A symbol means its lowest bit alone. All eight are written out, since neither `array::from_fn`
+// nor `map` is proved: "grind stopped at its own limit", with the goal `returns` open.
 #[tactic(auto, unfolding(crate::specs::Checks::byte_bits))]
 fn bits_of(byte: u8) -> [Gf2; 8]
     ensures { meanings result ≡ byte_bits byte }

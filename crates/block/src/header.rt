@@ -13,7 +13,7 @@ pub struct Header {
     // The subchannel index.
     pub size: usize,
     pub parameters: Parameters,
-    // The first byte of each unit, then the end of the super frame, then zeros: an array, since nothing is allocated.
+    // The first byte of each unit, then the end of the super frame, then zeros: an array, since a header is `Copy`, and `ArrayVec` is not.
     pub starts: [u16; 7],
 }
 
@@ -58,12 +58,9 @@ impl Header {
     {
         let bytes = SizedBlock::new(self.size, block)?.bytes;
         let UnitPlace { place, length } = self.unit(n)?;
-        let room = bytes.len().saturating_sub(place);
-        if room < 2 || room - 2 < length {
-            return Err(Refusal::Index);
-        }
-        let end = place + length;
-        let stored = u16::from_be_bytes([bytes[end], bytes[end + 1]]);
-        Ok(unit_check(&bytes[place..end]) == stored)
+        let end = usize::from(self.starts[n + 1]);
+        let checked = bytes.get(place..end).ok_or(Refusal::Index)?;
+        let (unit, check) = checked.split_at(length);
+        Ok(unit_check(unit) == u16::from_be_bytes([check[0], check[1]]))
     }
 }

@@ -1,5 +1,5 @@
 // A block whose size and length are right, and how its header is read.
-ghost use Rattle.std.specs.Prelude.{◌≡◌, ◌+◌, ◌-◌, ◌*◌, ◌<◌, ◌≤◌, length, drop, IfOk, MatchResult, Ok};
+ghost use Rattle.std.specs.Prelude.{◌≡◌, ◌-◌, ◌*◌, ◌<◌, ◌≤◌, length, drop, IfOk, MatchResult, Ok};
 ghost use Rattle.block.specs.Bytes.{unsigned};
 ghost use Rattle.block.specs.Headers.{starts as expected, crowded, fills, fire_fits as fits};
 ghost use Rattle.block.specs.Stages.{Fits, opened, blocked};

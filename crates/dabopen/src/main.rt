@@ -24,6 +24,7 @@ fn open_all<R: Read>(
     let mut block = vec![in rt.alloc(); 0u8; size.block_length()]?;
     let mut report = Report::new(rt, size);
     let mut unfinished = 0;
+    // The bound is never reached, and is there since a loop over input has to have one.
     for _ in 0..u64::MAX {
         let filled = fill(input, &mut block)?;
         if filled < block.len() {

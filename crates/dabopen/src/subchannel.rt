@@ -4,6 +4,7 @@ ghost use Rattle.std.specs.Prelude.{◌≡◌, ℕ, ◌*◌, ◌≤◌};
 use std::marker::Model;
 use std::str::FromStr;
 
+// The program's own type keeps the range 1 to 24, since the library takes any number and refuses what is outside.
 #[derive(Clone, Copy)]
 pub struct SubchannelIndex(usize);
 

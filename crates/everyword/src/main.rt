@@ -21,16 +21,12 @@ fn try_code<const SYMBOLS: usize, const CHECKS: usize>(rt: &HostRuntime) -> anyh
     Ok(())
 }
 
-fn run(rt: &HostRuntime) -> anyhow::Result<()> {
-    examples::print_all(rt)?;
-    try_code::<2, 1>(rt)?;
-    try_code::<3, 1>(rt)?;
-    try_code::<3, 2>(rt)?;
-    try_code::<4, 2>(rt)?;
-    try_code::<4, 3>(rt)?;
-    try_code::<5, 4>(rt)
-}
-
 fn main(rt: HostRuntime) -> anyhow::Result<()> {
-    run(&rt)
+    examples::print_all(&rt)?;
+    try_code::<2, 1>(&rt)?;
+    try_code::<3, 1>(&rt)?;
+    try_code::<3, 2>(&rt)?;
+    try_code::<4, 2>(&rt)?;
+    try_code::<4, 3>(&rt)?;
+    try_code::<5, 4>(&rt)
 }

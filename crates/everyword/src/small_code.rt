@@ -17,8 +17,10 @@ pub struct SmallCode<const SYMBOLS: usize, const CHECKS: usize> {
 }
 
 // How many words of so many symbols there are.
-fn word_count(symbols: usize) -> usize {
-    (0..symbols).fold(1, |power: usize, _| power.saturating_mul(16))
+fn word_count(symbols: usize) -> usize
+    requires { symbols ≤ 255 }
+{
+    16usize.saturating_pow(symbols as u32)
 }
 
 impl<const SYMBOLS: usize, const CHECKS: usize> SmallCode<SYMBOLS, CHECKS> {

@@ -4,11 +4,7 @@
 mod examples;
 mod recordings;
 
-fn run(rt: &HostRuntime) -> anyhow::Result<()> {
-    examples::print_all(rt)?;
-    recordings::compare_all(rt)
-}
-
 fn main(rt: HostRuntime) -> anyhow::Result<()> {
-    run(&rt)
+    examples::print_all(&rt)?;
+    recordings::compare_all(&rt)
 }

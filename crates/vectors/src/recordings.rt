@@ -9,7 +9,7 @@ use std::fs;
 #[derive(Clone, Copy)]
 struct Recording {
     name: &'static str,
-    // The subchannel index.
+    // The subchannel index. Its range is kept here, since the library takes any number and refuses what is outside.
     size: usize,
     ghost in_range: { (1 ≤ size) × (size ≤ 24) },
 }
