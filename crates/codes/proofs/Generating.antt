@@ -1,4 +1,4 @@
--- The generator in place: a factor taken in place by place from the back.
+-- The generator in place: a factor taken in place by place from the front.
 use borrow.Author.Count.{below_more}
 use Rattle.std.proofs.Common.{◌≡◌, ℕ, zero, suc, ◌+◌, ◌<◌, ◌≤◌, true, List, [], ◌∷◌, map, length, get_or, sym, refl, ap, ◌∙◌, ap₂, ⊎_elim, add-one, arith, ext_get_or}
 use lib.ListN.{length-map}

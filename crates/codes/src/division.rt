@@ -80,7 +80,8 @@ pub fn remainder<F: Field>(message: &[F], divisor: &[F], rest: &mut [F]) -> Resu
     Ok(())
 }
 
-// Goes on with a division: `rest` holds the remainder of what came before, and then of that with `more` behind it.
+// Goes on with a division: `rest` holds the remainder of what came before, and then of that with `more` behind it. It
+// differs from `remainder` in one call, and a parameter for that would be a flag.
 pub fn continue_remainder<F: Field>(
     more: &[F],
     divisor: &[F],

@@ -6,8 +6,8 @@ use crate::division::clear;
 use gf::Field;
 
 // A matrix with more columns than rows on lent symbols, row after row; there may be more of them. Each method asks that its row and
-// column are there, since a type for a row's number would have to name its matrix, and says that the shape stays, since no field of a
-// struct is constant.
+// column are there, since a type for a row's number would have to name its matrix; each that writes, but the last, which uses the matrix
+// up, says that the shape stays, since no field of a struct is constant.
 #[derive(Drop)]
 pub(crate) struct Matrix<'a, F> {
     symbols: &'a mut [F],

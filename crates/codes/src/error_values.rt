@@ -45,7 +45,7 @@ fn write_column<F: Field>(symbols: &[F], matrix: &mut Matrix<F>, column: usize)
     }
 }
 
-// Divides the entries before one by its negative.
+// Divides the entries before one by its negative. Its place is given, since the vector may go on behind it.
 fn normalize<F: Field>(vector: &mut [F], last: usize)
     requires { last < length vector.old }
     ensures { Normalized F.field last (entries F.field F.mean vector.old) (entries F.field F.mean vector.new) }

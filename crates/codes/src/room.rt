@@ -3,14 +3,15 @@ ghost use Rattle.std.specs.Prelude.{◌≡◌, ◌≤◌, length};
 
 use crate::locator::MAX_ERRORS;
 
-// Room for as many errors as can be corrected.
+// Room for as many errors as can be corrected. Points and values are lent, since an array of a field's symbols has no known size. A
+// function that is lent one part alone asks for its size: what a part holds is lost where it is lent as `&` through the struct.
 #[derive(Drop)]
 pub(crate) struct Room<'a, F> {
     // For a matrix with a row for each error, and a column more.
     pub(crate) matrix: &'a mut [F],
-    // For a locator polynomial, and then for the errors' values.
+    // For a locator polynomial, and then for the errors' values, one for each place.
     pub(crate) vector: &'a mut [F],
-    // For the errors' points, one for each place: lent, since an array of a field's symbols has no known size.
+    // For the errors' points, one for each place.
     pub(crate) points: &'a mut [F],
     ghost matrix_fits: { length matrix.now ≡ 72 },
     ghost vector_fits: { length vector.now ≡ 9 },

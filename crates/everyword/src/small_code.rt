@@ -12,7 +12,7 @@ use std::fmt;
 #[derive(Drop)]
 pub struct SmallCode<const SYMBOLS: usize, const CHECKS: usize> {
     codewords: Vec<Word<SYMBOLS>>,
-    // So that a word fits in memory.
+    // So that a word fits in memory. Where there is no code yet it is asked, since no bound can say it of a const parameter.
     ghost short: { SYMBOLS ≤ 255 },
 }
 

@@ -7,7 +7,7 @@ ghost use Rattle.gf.specs.Fields.{Modulus, residues};
 use super::field::Field;
 
 // A field of residues modulo a polynomial over the field of 2 elements.
-// Each field repeats the frame of from_byte, byte, order and root: an impl that a macro of the repository writes is refused.
+// Each field repeats the frame of from_byte, byte, order, root and tables: an impl that a macro of the repository writes is refused.
 pub trait BinaryField: Copy {
     ghost modulus: { Modulus };
 

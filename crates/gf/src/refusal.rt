@@ -9,7 +9,7 @@ use std::fmt;
 pub enum Refusal {
     // The subchannel index is not 1 to 24.
     Size,
-    // The block buffer has not 120 bytes times the subchannel index, or the queue buffer not 768.
+    // The block buffer has not 120 bytes times the subchannel index, or the queue buffer not 768 bytes times it.
     Buffer,
     // A value of the settings is out of range, or ps goes without sbr or with stereo.
     Settings,
@@ -115,6 +115,7 @@ impl Refusal {
         }
     }
 
+    // A number, since it is published and given to C.
     pub fn number(self) -> u8
         ensures { result ≡ (entry self).number }
     {

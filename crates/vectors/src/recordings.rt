@@ -71,13 +71,14 @@ fn description(heap: Global, size: usize, block: &[u8]) -> Result<String, AllocE
 }
 
 impl Recording {
+    // Said in each program: they share only the library, which is given a number.
     fn block_length(&self) -> usize
         ensures { result ≡ 120 * self.now.size }
     {
         120 * self.size
     }
 
-    // How many blocks come out as the lines say, each beside its own.
+    // How many blocks come out as the lines say, each beside its own. Counted in a loop, since a description can fail.
     fn count_same(&self, heap: Global, lines: &[&str], bytes: &[u8]) -> Result<usize, AllocError> {
         let blocks = bytes.chunks(self.block_length());
         let mut same = 0usize;
