@@ -1,8 +1,7 @@
 -- Long division: the quotient and the rest, that nothing else is left, and a message that comes in parts.
-use Rattle.std.proofs.Common.{◌≡◌, ℕ, zero, suc, ◌+◌, ◌-◌, ◌<◌, ◌≤◌, max, List, [], ◌∷◌, ◌++◌, map, length, get_or, drop, sym, refl, ap, ◌∙◌, ap₂, ⊎_elim, append_assoc, append-nil, add-zero, add_comm, suc-add, zero-add, add-one, arith, length-append, drop-cons}
+use Rattle.std.proofs.Common.{◌≡◌, ℕ, zero, suc, ◌+◌, ◌-◌, ◌<◌, ◌≤◌, max, List, [], ◌∷◌, ◌++◌, map, length, get_or, drop, sym, refl, ap, ◌∙◌, ap₂, ⊎_elim, append_assoc, add-zero, add_comm, suc-add, zero-add, add-one, arith, length-append, drop-cons}
 use lib.ListN.{length-replicate, length-map, replicate-append-replicate}
 use lib.Seq.{append_snoc}
-use Rattle.std.proofs.lemmas.List.{drop_all}
 use Rattle.std.proofs.lemmas.Bool.{cases_lt}
 use Rattle.gf.specs.Theory.{Operations, Laws}
 use Rattle.codes.specs.Polynomials.{zeros, scale, negs, over, plus, times, coefficient, Same}
@@ -124,15 +123,6 @@ module _ {E : Type 0} {f : Operations E} (l : Laws f) where
     where
       steps : suc (length message - (i + 1)) ≡ length message - i
       steps = omega arith
-
-  -- the whole message is taken in
-  pub taken_in : {S : Type 0} (mean : S → E) (d : List E) (message rest : List S) (i : ℕ) → i ≤ length message → length message ≤ i
-      → divided f d (length message - i) (map mean rest ++ map mean (drop i message)) ≡ map mean rest
-  taken_in mean d message rest i h k =
-      ap₂ (λ (n : ℕ) v. divided f d n (map mean rest ++ map mean v)) none (drop_all i message k) ∙ append-nil (map mean rest)
-    where
-      none : length message - i ≡ 0
-      none = omega arith
 
   plus_rest : (n : ℕ) (p r : List E) → length p ≡ n + length r → plus f p r ≡ over f p (zeros f n ++ r)
   plus_rest n p r e = ap₂ (λ (i j : ℕ). over f (zeros f i ++ p) (zeros f j ++ r)) a b

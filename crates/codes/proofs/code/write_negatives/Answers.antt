@@ -2,7 +2,7 @@ use Rattle.std.proofs.Common.{◌≡◌, map, length, sym, ap, ◌∙◌, arith}
 use lib.ListN.{length-map}
 use Rattle.std.proofs.lemmas.List.{get_or-map}
 use Rattle.codes.specs.Polynomials.{negs}
-use Rattle.codes.proofs.Registers.{next_written, whole}
+use Rattle.codes.proofs.Registers.{next_written}
 use Rattle.codes.proofs.code.write_negatives.Goals as goal
 
 pub loop-place-preserved : goal.loop-place-preserved
@@ -15,13 +15,3 @@ loop-place-preserved g c =
     let long : length old ≡ length copied = length-map copied F.mean in
     next_written f F.mean c.loop-place.places (negs f old) old j c.place-item.result c.neg.result (length-map old f.neg) (omega arith) (omega arith) c.loop-place.invariant
     (λ here. c.neg.ensures ∙ ap f.neg here ∙ sym (get_or-map f.neg old j f.zero f.zero (omega arith)))
-
-pub returns : goal.returns
-returns g c =
-    let F = g.F.Field in
-    let f = F.field in
-    let copied = c.copy_from_slice.new.self in
-    let old = map F.mean copied in
-    let long : length old ≡ length copied = length-map copied F.mean in
-    c.loop-place.invariant ∙ whole f.zero (negs f old) old c.loop-place.place-index (omega (arith, length-map old f.neg)) (omega arith)
-    ∙ ap (λ xs. negs f (map F.mean xs)) c.copy_from_slice.ensures.after

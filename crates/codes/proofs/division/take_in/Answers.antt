@@ -1,6 +1,6 @@
-use Rattle.std.proofs.Common.{map, sym, ◌∙◌, arith}
+use Rattle.std.proofs.Common.{map, ◌∙◌, arith}
 use lib.ListN.{length-map}
-use Rattle.codes.proofs.LongDivision.{take_in, taken_in}
+use Rattle.codes.proofs.LongDivision.{take_in}
 use Rattle.codes.proofs.division.take_in.Goals as goal
 
 pub loop-symbol-preserved : goal.loop-symbol-preserved
@@ -13,10 +13,3 @@ loop-symbol-preserved g c =
           (omega (arith, length-map tail F.mean, c.loop-symbol.auto.rest, c.requires.0)) (omega (arith, length-map tail F.mean, c.requires.1)) c.step.ensures
           ∙ c.loop-symbol.invariant.1,
     )
-
-pub returns : goal.returns
-returns g c =
-    let F = g.F.Field in
-    sym (taken_in g.met.F.Field.laws F.mean (map F.mean c.args.tail.now) c.args.message.now c.loop-symbol.rest
-    c.loop-symbol.symbol-index c.loop-symbol.invariant.0 c.loop-symbol-test.false)
-    ∙ c.loop-symbol.invariant.1

@@ -89,8 +89,3 @@ loop-place-preserved g c =
             rw same c.loop-place.invariant.4,
           )
     ])
-
-pub returns-clause-places : goal.returns-clause-places
-returns-clause-places g c =
-    let e : c.args.symbols - c.loop-place.place ≡ c.args.symbols = omega (arith, c.loop-place-test.false) in
-    subst (λ (m : ℕ). Suspects g.F.Field.field (map g.F.Field.mean c.args.terms.now) c.args.symbols m c.loop-place.places.items) e c.loop-place.invariant.2

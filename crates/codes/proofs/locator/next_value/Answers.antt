@@ -1,9 +1,9 @@
-use Rattle.std.proofs.Common.{◌≡◌, ℕ, ◌-◌, ◌%◌, ◌<◌, map, length, get_or, set, sym, ap, ◌∙◌, ap₂, arith, take_all}
+use Rattle.std.proofs.Common.{◌≡◌, ℕ, ◌-◌, ◌%◌, ◌<◌, map, length, get_or, set, sym, ap, ◌∙◌, ap₂, arith}
 use lib.ListN.{length-map}
 use lib.Seq.{map-set}
 use Rattle.std.proofs.lemmas.List.{get_or-map}
 use Rattle.gf.specs.Theory.{pow}
-use Rattle.codes.specs.Decoding.{terms_of, total}
+use Rattle.codes.specs.Decoding.{terms_of}
 use Rattle.codes.proofs.Registers.{advance, next_as_was, whole}
 use Rattle.codes.proofs.Searching.{length-terms_of, terms_at, total-next}
 use Rattle.codes.proofs.locator.next_value.Goals as goal
@@ -29,12 +29,6 @@ loop-k-preserved g c =
           (c.times_root_power.ensures ∙ ap₂ (λ x (n : ℕ). f.mul x (pow f f.root n)) symbol power ∙ sym (terms_at f f.root old k here))
           ∙ advance f.zero new old k (length-terms_of f f.root old) here,
     )
-
-pub returns-clause-value : goal.returns-clause-value
-returns-clause-value g c =
-    let F = g.F.Field in
-    let old = map F.mean c.args.terms.now in
-    c.loop-k.invariant.0 ∙ ap (total F.field) (take_all c.loop-k.k old (omega (arith, length-map c.args.terms.now F.mean, c.loop-k.auto, c.loop-k-test.false)))
 
 pub returns-clause-next : goal.returns-clause-next
 returns-clause-next g c =

@@ -1,5 +1,4 @@
-use Rattle.std.proofs.Common.{map, length, ap, ◌∙◌, arith, take_all}
-use Rattle.codes.specs.Codewords.{syndrome}
+use Rattle.std.proofs.Common.{length, arith}
 use Rattle.codes.specs.Elimination.{entries}
 use Rattle.codes.proofs.Cells.{place-zeros}
 use Rattle.codes.proofs.Taking.{syndromes_more}
@@ -18,9 +17,3 @@ loop-symbol-preserved g c i h =
     syndromes_more g.met.F.Field.laws F.mean c.args.word.now c.loop-symbol.symbol-index c.symbol-item.result (length now)
     (entries f F.mean now) (entries f F.mean c.take_in.new.syndromes) c.loop-symbol-test.true c.symbol-item.is
     (λ j b. c.loop-symbol.invariant j (omega arith)) c.take_in.ensures i (omega arith)
-
-pub returns : goal.returns
-returns g c i h =
-    let F = g.F.Field in
-    c.loop-symbol.invariant i (omega arith)
-    ∙ ap (λ w. syndrome F.field (map F.mean w) i) (take_all c.loop-symbol.symbol-index c.args.word.now c.loop-symbol-test.false)
