@@ -1,13 +1,15 @@
 -- A symbol taken into each syndrome, place by place, and a word taken in symbol by symbol.
-use Rattle.std.proofs.Common.{◌≡◌, ℕ, ◌+◌, ◌<◌, Bool, ◌&&◌, fold, List, [], ◌∷◌, ◌++◌, map, length, get_or, take, sym, ap, ◌∙◌, subst, ⊎_elim, arith}
+use Rattle.std.proofs.Common.{◌≡◌, ℕ, ◌+◌, ◌<◌, ◌≤◌, Bool, ◌&&◌, fold, List, [], ◌∷◌, ◌++◌, map, length, get_or, take, sym, ap, ◌∙◌, subst, ⊎_elim, take_all, arith}
+use lib.ListN.{length-map}
 use mathlib.Core.Bool.{and_assoc, and-true}
 use mathlib.Core.List.{map-append}
-use Rattle.std.proofs.lemmas.List.{take_more}
+use Rattle.std.proofs.lemmas.List.{take_more, get_or-map}
 use Rattle.std.proofs.lemmas.Bool.{cases_eq}
 use Rattle.gf.specs.Theory.{Operations, Laws, pow}
 use Rattle.codes.specs.Polynomials.{value}
 use Rattle.codes.specs.Codewords.{all_zero}
-use Rattle.codes.specs.Syndromes.{Taken, Syndromes}
+use Rattle.codes.specs.Elimination.{entries}
+use Rattle.codes.specs.Syndromes.{Taken, Syndromes, Raised}
 use Rattle.codes.proofs.Values.{value-snoc}
 
 -- the part of a list before the next index, mapped
@@ -19,11 +21,11 @@ next mean xs i x h e =
 module _ {E : Type 0} (f : Operations E) where
   -- one place more
   pub taken_more : (n : ℕ) (c : E) (v u z : ℕ → E) → Taken f n c v u
-      → z n ≡ f.add (f.mul (u n) (pow f f.root n)) c → ((i : ℕ) → (i ≡ n → ⊥) → z i ≡ u i) → Taken f (n + 1) c v z
+      → z n ≡ f.mul (f.add (u n) c) (pow f f.root n) → ((i : ℕ) → (i ≡ n → ⊥) → z i ≡ u i) → Taken f (n + 1) c v z
   taken_more n c v u z s here other = record {
     done = λ i h. ⊎_elim
-        (λ (y : i ≡ n). subst (λ i. z i ≡ f.add (f.mul (v i) (pow f f.root i)) c) (sym y)
-        (here ∙ ap (λ a. f.add (f.mul a (pow f f.root n)) c) (s.left n (omega arith))))
+        (λ (y : i ≡ n). subst (λ i. z i ≡ f.mul (f.add (v i) c) (pow f f.root i)) (sym y)
+        (here ∙ ap (λ a. f.mul (f.add a c) (pow f f.root n)) (s.left n (omega arith))))
         (λ (d : i ≡ n → ⊥). other i d ∙ s.done i (omega (arith, d))) (cases_eq i n);
     left = λ i h. other i (λ y. omega arith) ∙ s.left i (omega arith);
   }
@@ -39,8 +41,27 @@ module _ {E : Type 0} (f : Operations E) where
 
 module _ {E : Type 0} {f : Operations E} (l : Laws f) where
   -- one symbol more
-  pub syndromes_more : {S : Type 0} (mean : S → E) (word : List S) (k : ℕ) (x : S) (n : ℕ) (v u : ℕ → E) → k < length word → x ≡ get_or word k x
-      → Syndromes f n (map mean (take k word)) v → Taken f n (mean x) v u → Syndromes f n (map mean (take (k + 1) word)) u
-  syndromes_more mean word k x n v u h e s t i b =
-      t.done i b ∙ ap (λ y. f.add (f.mul y (pow f f.root i)) (mean x)) (s i b)
-      ∙ sym (ap (value f (pow f f.root i)) (next mean word k x h e) ∙ value-snoc l (pow f f.root i) (map mean (take k word)) (mean x))
+  pub raised_more : {S : Type 0} (mean : S → E) (word : List S) (k : ℕ) (x : S) (n : ℕ) (v u : ℕ → E) → k < length word → x ≡ get_or word k x
+      → Raised f n (map mean (take k word)) v → Taken f n (mean x) v u → Raised f n (map mean (take (k + 1) word)) u
+  raised_more mean word k x n v u h e s t i b =
+      t.done i b
+      ∙ ap (λ y. f.mul y (pow f f.root i))
+      (ap (λ y. f.add y (mean x)) (s i b)
+      ∙ sym (ap (value f (pow f f.root i)) (next mean word k x h e) ∙ value-snoc l (pow f f.root i) (map mean (take k word)) (mean x)))
+
+  -- the last symbol comes in
+  pub syndromes_last : {S : Type 0} (mean : S → E) (word others : List S) (last : S) (k n : ℕ) (v w : List S) → word ≡ others ++ (last ∷ []) → length others ≤ k → length v ≡ n
+      → Raised f n (map mean (take k others)) (entries f mean v) → map mean w ≡ map (λ y. f.add y (mean last)) (map mean v)
+      → Syndromes f n (map mean word) (entries f mean w)
+  unfolding entries
+  syndromes_last mean word others last k n v w parts end long s e i b =
+      let x = pow f f.root i in
+      ap (λ ys. get_or ys i f.zero) e
+      ∙ get_or-map (λ y. f.add y (mean last)) (map mean v) i f.zero f.zero (omega (arith, length-map v mean))
+      ∙ ap (λ y. f.add y (mean last)) (s i b ∙ ap (λ p. f.mul (value f x (map mean p)) x) (take_all k others end))
+      ∙ sym (ap (λ p. value f x (map mean p)) parts ∙ ap (value f x) (map-append mean others (last ∷ [])) ∙ value-snoc l x (map mean others) (mean last))
+
+  -- an empty word has only syndromes that are zero
+  pub syndromes_empty : {S : Type 0} (mean : S → E) (word : List S) (n : ℕ) (u : ℕ → E) → length word ≡ 0 → ((i : ℕ) → u i ≡ f.zero) → Syndromes f n (map mean word) u
+  syndromes_empty mean [] n u e none i b = none i
+  syndromes_empty mean (x ∷ xs) n u e none i b = absurd (omega arith)

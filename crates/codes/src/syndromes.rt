@@ -7,25 +7,38 @@ ghost use Rattle.codes.specs.Syndromes.{Taken, Syndromes};
 use crate::division::clear;
 use gf::Field;
 
-// Takes the next symbol of a word into each value, by Horner's rule at the power of the root that the place says.
+// Takes the next symbol of a word into each value, and each value on by the power of the root that its place says. The product comes
+// last: with the sum last the compiler packs eight values into one register to add, and unpacks them to multiply, in twice the time.
 fn take_in<F: Field>(syndromes: &mut [F], symbol: F)
     requires { length syndromes.old ≤ 16 }
     ensures { Taken F.field (length syndromes.old) (F.mean symbol) (entries F.field F.mean syndromes.old) (entries F.field F.mean syndromes.new) }
 {
     for (i, syndrome) in syndromes.iter_mut().enumerate() {
-        *syndrome = syndrome.times_root_power(i).add(symbol);
+        *syndrome = syndrome.add(symbol).times_root_power(i);
     }
 }
 
-// Writes at each place the value of the word at that power of the root. Syndromes go about as a slice of at most sixteen symbols; each
-// function would reach through a struct with that bound to the same slice, and have to say that it keeps its length.
+// Adds the last symbol of a word to each value.
+fn add_last<F: Field>(syndromes: &mut [F], symbol: F)
+    ensures { map F.mean syndromes.new ≡ map (λ value. F.field.add value (F.mean symbol)) (map F.mean syndromes.old) }
+{
+    for syndrome in syndromes.iter_mut() {
+        *syndrome = syndrome.add(symbol);
+    }
+}
+
+// Writes at each place the value of the word at that power of the root, by Horner's rule. Syndromes go about as a slice of at most
+// sixteen symbols; each function would reach through a struct with that bound to the same slice, and have to say that it keeps its length.
 pub(crate) fn write_syndromes<F: Field>(word: &[F], syndromes: &mut [F])
     requires { length syndromes.old ≤ 16 }
     ensures { Syndromes F.field (length syndromes.old) (map F.mean word.now) (entries F.field F.mean syndromes.new) }
 {
     clear(syndromes);
-    for symbol in word {
-        take_in(syndromes, *symbol);
+    if let Some((last, others)) = word.split_last() {
+        for symbol in others {
+            take_in(syndromes, *symbol);
+        }
+        add_last(syndromes, *last);
     }
 }
 

@@ -16,6 +16,6 @@ loop-i-preserved g c =
     let below : i < 16 = omega arith in
     let read = place_at f F.mean xs i c.index-syndromes-i.result (omega arith) in
     taken_more f i symbol (entries f F.mean c.args.syndromes.now) (entries f F.mean xs) _ c.loop-i.invariant
-    (place_set f F.mean xs i c.add.result (omega arith) ∙ c.add.ensures
-    ∙ ap (λ y. f.add y symbol) (c.times_root_power.ensures ∙ ap₂ (λ y (n : ℕ). f.mul y (pow f f.root n)) read (mod-eq_of_lt below)))
-    (λ j d. place_other f F.mean xs i j c.add.result d)
+    (place_set f F.mean xs i c.times_root_power.result (omega arith) ∙ c.times_root_power.ensures
+    ∙ ap₂ (λ y (n : ℕ). f.mul y (pow f f.root n)) (c.add.ensures ∙ ap (λ y. f.add y symbol) read) (mod-eq_of_lt below))
+    (λ j d. place_other f F.mean xs i j c.times_root_power.result d)

@@ -1,10 +1,10 @@
 use Rattle.std.proofs.Common.{map, length, take}
 use Rattle.codes.specs.Elimination.{entries}
-use Rattle.codes.specs.Syndromes.{Syndromes}
+use Rattle.codes.specs.Syndromes.{Raised}
 use Rattle.codes.proofs.syndromes.write_syndromes.Given as goal
 
--- the syndromes of the part of the word before
+-- the syndromes of the part of the word before, each on by its power
 abbrev pub invariant-loop-symbol : goal.invariant-loop-symbol
 invariant-loop-symbol g l =
     let F = g.F.Field in
-    Syndromes F.field (length l.initial.syndromes) (map F.mean (take l.symbol-index l.word)) (entries F.field F.mean l.syndromes)
+    Raised F.field (length l.initial.syndromes) (map F.mean (take l.symbol-index l.others)) (entries F.field F.mean l.syndromes)
