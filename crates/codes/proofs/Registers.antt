@@ -99,3 +99,10 @@ module _ {E : Type 0} (f : Operations E) where
       ∙ ap₂ (λ ys y. set ys j y) so
       (write (sym (get_or-map mean xs j d f.zero h) ∙ ap (λ ys. get_or ys j f.zero) so ∙ next_as_was f.zero new old j e (omega arith)))
       ∙ advance f.zero new old j e (omega arith)
+
+  -- the next place is written by a function that goes over all
+  pub next_mapped : {S : Type 0} (mean : S → E) (g : E → E) (xs : List S) (old : List E) (j : ℕ) (d x : S) → length xs ≡ length old → j < length xs
+      → map mean xs ≡ take j (map g old) ++ drop j old → mean x ≡ g (mean (get_or xs j d)) → map mean (set xs j x) ≡ take (j + 1) (map g old) ++ drop (j + 1) old
+  next_mapped mean g xs old j d x k h so e =
+      next_written mean xs (map g old) old j d x (length-map old g) k h so
+      (λ here. e ∙ ap g here ∙ sym (get_or-map g old j f.zero f.zero (omega arith)))

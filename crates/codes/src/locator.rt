@@ -44,7 +44,7 @@ fn find_locator<F: Field>(syndromes: &[F], symbols: &mut [F], locator: &mut [F])
     requires long { length locator.old ≡ length syndromes.now / 2 + 1 }
     ensures { Locator F.field (length syndromes.now / 2) (entries F.field F.mean syndromes.now) (map F.mean locator.new) }
 {
-    let degree = syndromes.len() / 2;
+    let degree = locator.len() - 1;
     let mut matrix = Matrix::new(symbols, degree, degree + 1);
     fill_rows(syndromes, &mut matrix);
     matrix.kernel_vector(locator);

@@ -1,4 +1,4 @@
-use Rattle.std.proofs.Common.{◌≡◌, ◌+◌, ◌/◌, length, ◌∙◌, arith}
+use Rattle.std.proofs.Common.{◌≡◌, ℕ, ◌+◌, ◌-◌, ◌/◌, length, ap, ◌∙◌, arith}
 use Rattle.codes.specs.Elimination.{cells, entries}
 use Rattle.codes.proofs.Equations.{locator_solved}
 use Rattle.codes.proofs.locator.find_locator.Goals as goal
@@ -7,8 +7,9 @@ pub returns : goal.returns
 returns g c =
     let F = g.F.Field in
     let t = length c.args.syndromes.now / 2 in
-    let rows = c.new-matrix.ensures.0 in
-    let columns = c.new-matrix.ensures.1 in
+    let degree : length c.args.locator.now - 1 ≡ t = omega (arith, c.requires.long) in
+    let rows = c.new-matrix.ensures.0 ∙ degree in
+    let columns = c.new-matrix.ensures.1 ∙ ap (λ (n : ℕ). n + 1) degree in
     let long : length c.kernel_vector.new.vector ≡ t + 1 = omega (arith, c.kernel_vector.auto.vector, c.requires) in
     let filled = rw rows at c.fill_rows.ensures.filled in
     let kernel = rw (c.fill_rows.ensures.shape.0 ∙ rows, c.fill_rows.ensures.shape.1 ∙ columns) at c.kernel_vector.ensures in
