@@ -7,9 +7,9 @@ use Rattle.std.proofs.lemmas.List.{take_more, get_or-map}
 use Rattle.std.proofs.lemmas.Bool.{cases_eq}
 use Rattle.gf.specs.Theory.{Operations, Laws, pow}
 use Rattle.codes.specs.Polynomials.{value}
-use Rattle.codes.specs.Codewords.{all_zero}
+use Rattle.codes.specs.Codewords.{syndrome, all_zero}
 use Rattle.codes.specs.Elimination.{entries}
-use Rattle.codes.specs.Syndromes.{Taken, Syndromes, Raised}
+use Rattle.codes.specs.Syndromes.{Taken, Syndromes}
 use Rattle.codes.proofs.Values.{value-snoc}
 
 -- the part of a list before the next index, mapped
@@ -19,6 +19,10 @@ next mean xs i x h e =
     ap (map mean) (take_more xs i x h) ∙ map-append mean (take i xs) (get_or xs i x ∷ []) ∙ ap (λ y. map mean (take i xs) ++ (mean y ∷ [])) (sym e)
 
 module _ {E : Type 0} (f : Operations E) where
+  -- at each place i below n stands the value, at the i-th power of the root, of the word with a zero behind it
+  abbrev pub Raised : ℕ → List E → (ℕ → E) → Type 0
+  Raised n word u = (i : ℕ) → i < n → u i ≡ f.mul (syndrome f word i) (pow f f.root i)
+
   -- one place more
   pub taken_more : (n : ℕ) (c : E) (v u z : ℕ → E) → Taken f n c v u
       → z n ≡ f.mul (f.add (u n) c) (pow f f.root n) → ((i : ℕ) → (i ≡ n → ⊥) → z i ≡ u i) → Taken f (n + 1) c v z

@@ -12,7 +12,3 @@ module _ {E : Type 0} (f : Operations E) where
   -- at each place i below n stands the value of the word at the i-th power of the root
   abbrev pub Syndromes : ℕ → List E → (ℕ → E) → Type 0
   Syndromes n word u = (i : ℕ) → i < n → u i ≡ syndrome f word i
-
-  -- the same, of the word with a zero behind it
-  abbrev pub Raised : ℕ → List E → (ℕ → E) → Type 0
-  Raised n word u = (i : ℕ) → i < n → u i ≡ f.mul (syndrome f word i) (pow f f.root i)

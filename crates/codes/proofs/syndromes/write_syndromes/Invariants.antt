@@ -1,6 +1,6 @@
 use Rattle.std.proofs.Common.{map, length, take}
 use Rattle.codes.specs.Elimination.{entries}
-use Rattle.codes.specs.Syndromes.{Raised}
+use Rattle.codes.proofs.Taking.{Raised}
 use Rattle.codes.proofs.syndromes.write_syndromes.Given as goal
 
 -- the syndromes of the part of the word before, each on by its power
