@@ -1,6 +1,6 @@
 // The check code over every field: filling the checks of a word, and correcting a word.
 ghost use Rattle.std.specs.Prelude.{◌≡◌, true, ◌&&◌, map, length};
-ghost use Rattle.codes.specs.Polynomials.{negs};
+ghost use Rattle.codes.specs.Polynomials.{zeros, negs};
 ghost use Rattle.codes.specs.Codewords.{code_shape, work_shape, Filled, Encoded, Outcome, Correction, Vandermonde, SyndromesDecide, MinimumDistance};
 
 use crate::division::{clear, divide};
@@ -63,11 +63,12 @@ fn fill_checks<F: Field>(word: &mut [F], checks: usize, work: &mut [F])
     write_negatives(rest, &mut word[first..]);
 }
 
-// Corrects a word of an admitted shape. A codeword is known by its syndromes alone.
+// Corrects a word of an admitted shape. A codeword is known by its syndromes alone, which leave the work buffer all zeros.
 fn correct_word<F: Field>(word: &mut [F], checks: usize, work: &mut [F]) -> Result<usize, Refusal>
     requires shape { code_shape F.field (length word.old) checks ≡ true }
-    requires work { length work.old ≡ 512 }
-    ensures { Outcome F.field F.mean checks word.old word.new result }
+    requires work { map F.mean work.old ≡ zeros F.field 512 }
+    ensures outcome { Outcome F.field F.mean checks word.old word.new result }
+    ensures work { map F.mean work.new ≡ zeros F.field 512 }
 {
     let (syndromes, rest) = work.split_at_mut(MAX_CHECKS);
     let syndromes = &mut syndromes[..checks];
@@ -75,7 +76,9 @@ fn correct_word<F: Field>(word: &mut [F], checks: usize, work: &mut [F]) -> Resu
     if are_zero(syndromes) {
         return Ok(0);
     }
-    correct_errors(word, syndromes, rest)
+    let answer = correct_errors(word, syndromes, rest);
+    clear(work);
+    answer
 }
 
 // Writes the last symbols, as many as there are checks, so that the word is a codeword. The others stay as they are.
@@ -101,7 +104,5 @@ pub fn correct<F: Field>(word: &mut [F], checks: usize, work: &mut [F]) -> Resul
     if !is_admitted(word, checks, work) {
         return Err(Refusal::Shape);
     }
-    let answer = correct_word(word, checks, work);
-    clear(work);
-    answer
+    correct_word(word, checks, work)
 }

@@ -1,10 +1,14 @@
-use Rattle.std.proofs.Common.{◌≡◌, map, length, ap, ◌∙◌, rules}
-use Rattle.codes.specs.Polynomials.{zeros}
+use Rattle.std.proofs.Common.{length, rules}
 use Rattle.codes.specs.Codewords.{code_shape}
-use Rattle.codes.proofs.Shapes.{admitted_work}
+use Rattle.codes.proofs.Shapes.{admitted_zeros}
 use Rattle.codes.proofs.PowerSums.{vandermonde}
 use Rattle.codes.proofs.Words.{syndromes_decide, minimum_distance}
 use Rattle.codes.proofs.code.correct.Goals as goal
+
+pub correct_word-requires-clause-work : goal.correct_word-requires-clause-work
+correct_word-requires-clause-work g c =
+    let F = g.F.Field in
+    admitted_zeros g.met.F.Field.laws F.mean (code_shape F.field (length c.args.word.now) c.args.checks) c.args.work.now c.if-not-is_admitted.ensures
 
 -- the theorems hold whatever is answered
 pub returns-then-not-is_admitted : goal.returns-then-not-is_admitted
@@ -16,14 +20,9 @@ returns-then-not-is_admitted g c = record {
 }
 
 pub returns : goal.returns
-returns g c =
-    let F = g.F.Field in
-    let f = F.field in
-    let sized = admitted_work f F.mean (code_shape f (length c.args.word.now) c.args.checks) c.args.work.now c.if-not-is_admitted.ensures in
-    let cleared : map F.mean c.clear.new.symbols ≡ zeros f 512 = c.clear.ensures ∙ ap (zeros f) (c.correct_word-answer.auto.work ∙ sized) in
-    record {
-      answer = search rules;
-      vandermonde = vandermonde g.met.F.Field.laws;
-      syndromes = syndromes_decide g.met.F.Field.laws;
-      distance = minimum_distance g.met.F.Field.laws;
-    }
+returns g c = record {
+  answer = search rules;
+  vandermonde = vandermonde g.met.F.Field.laws;
+  syndromes = syndromes_decide g.met.F.Field.laws;
+  distance = minimum_distance g.met.F.Field.laws;
+}

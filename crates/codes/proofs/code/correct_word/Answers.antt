@@ -1,7 +1,8 @@
-use Rattle.std.proofs.Common.{◌≡◌, map, length, take, sym, ◌∙◌, arith, rules}
-use lib.ListN.{length-map}
+use Rattle.std.proofs.Common.{◌≡◌, map, length, take, sym, ap, ◌∙◌, arith, rules}
+use lib.ListN.{length-map, length-replicate}
+use Rattle.codes.specs.Polynomials.{zeros}
 use Rattle.codes.specs.Elimination.{entries}
-use Rattle.codes.proofs.Shapes.{code_sizes}
+use Rattle.codes.proofs.Shapes.{code_sizes, zeros_over}
 use Rattle.codes.proofs.Outcomes.{all_zero_at, outcome_clean}
 use Rattle.codes.proofs.code.correct_word.Goals as goal
 
@@ -9,10 +10,23 @@ pub returns-then-are_zero : goal.returns-then-are_zero
 unfolding entries
 returns-then-are_zero g c =
     let F = g.F.Field in
+    let l = g.met.F.Field.laws in
     let syndromes = c.write_syndromes.new.syndromes in
-    let sizes = code_sizes F.field (length c.args.word.now) c.args.checks c.requires.shape in
-    let part : length (take c.args.checks c.split_at_mut-syndromes.result.0.now) ≡ c.args.checks = search rules in
-    let many : length syndromes ≡ c.args.checks = search rules in
-    outcome_clean g.met.F.Field.laws F.mean c.args.checks c.args.word.now (omega arith) sizes.3
-    (λ i h. sym (c.write_syndromes.ensures i (omega (arith, part)))
-    ∙ all_zero_at g.met.F.Field.laws (map F.mean syndromes) (sym c.if-are_zero.ensures) i (omega (arith, many, length-map syndromes F.mean)))
+    let parts = c.split_at_mut-syndromes.result in
+    let r = c.args.checks in
+    let sizes = code_sizes F.field (length c.args.word.now) r c.requires.shape in
+    let front : length (take r parts.0.now) ≡ r = search rules in
+    let many : length syndromes ≡ r = search rules in
+    let none = sym (c.if-are_zero.ensures) in
+    record {
+      outcome = outcome_clean l F.mean r c.args.word.now (omega arith) sizes.3
+          (λ i h. sym (c.write_syndromes.ensures i (omega (arith, front))) ∙ all_zero_at l (map F.mean syndromes) none i (omega (arith, many, length-map syndromes F.mean)));
+      work = zeros_over l F.mean 512 r syndromes parts.0.now parts.1.now c.args.work.now c.split_at_mut-syndromes.ensures.value c.requires.work
+          (omega (arith, sizes)) many none;
+    }
+
+pub returns-clause-work : goal.returns-clause-work
+returns-clause-work g c =
+    let sized : length c.args.work.now ≡ 512 = sym (length-map c.args.work.now g.F.Field.mean) ∙ ap length c.requires.work ∙ length-replicate 512 g.F.Field.field.zero in
+    let long : length c.clear.new.symbols ≡ 512 = search rules in
+    c.clear.ensures ∙ ap (zeros g.F.Field.field) (sym c.clear.auto.symbols ∙ long)
