@@ -1,24 +1,10 @@
 -- One column of the elimination, and one row of the substitution.
-use Rattle.std.proofs.Common.{◌≡◌, ℕ, ◌+◌, ◌<◌, ◌≤◌, true, false, sym, refl, ap, ◌∙◌, subst, ap₂, ⊎_elim, true≢false, arith}
-use Rattle.std.specs.Prelude.{Option, None, Some, MatchOption}
+use Rattle.std.proofs.Common.{◌≡◌, ℕ, ◌+◌, ◌<◌, ◌≤◌, sym, refl, ap, ◌∙◌, subst, ap₂, ⊎_elim, arith}
 use Rattle.std.proofs.lemmas.Bool.{cases_eq, cases_lt}
 use Rattle.gf.specs.Theory.{Operations, Laws}
 use Rattle.codes.specs.Elimination.{sent, Kills, Keeps, Steps, Free, Pivot, Swapped, Below, Single, Solved}
 use Rattle.codes.proofs.Elements.{mul-zero, zero-mul}
 use Rattle.codes.proofs.Linear.{sent-same, sent_added, sent_change, sent-none}
-
-module _ {E : Type 0} {f : Operations E} (l : Laws f) (m k : ℕ) (a : ℕ → ℕ → E) where
-  -- what the search for the first row that is not zero in a column finds
-  pub pivot_found : (r : Option ℕ) → MatchOption r ((i : ℕ) → k ≤ i → i < m → f.equal (a i k) f.zero ≡ true)
-      (λ p. (k ≤ p) × (p < m) × (f.equal (a p k) f.zero ≡ false) × ((i : ℕ) → k ≤ i → i < p → f.equal (a i k) f.zero ≡ true))
-      → MatchOption r (Free f m k a) (Pivot f m k a)
-  pivot_found None h = λ i from below. l.equal_no (a i k) f.zero (h i from below)
-  pivot_found (Some p) s = record {
-    from = s.0;
-    below = s.1;
-    some = λ e. true≢false (sym (l.equal_yes (a p k) f.zero e) ∙ s.2);
-    first = λ i from before. l.equal_no (a i k) f.zero (s.3 i from before);
-  }
 
 module _ {E : Type 0} {f : Operations E} (l : Laws f) (m w : ℕ) where
   -- rows that have changed places

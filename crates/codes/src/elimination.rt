@@ -95,7 +95,13 @@ impl<'a, F: Field> Matrix<'a, F> {
         requires { column < self.now.columns }
         ensures { MatchOption result (Free F.field self.now.rows column (cells F.field F.mean self.now.columns self.now.symbols.now)) (λ p. Pivot F.field self.now.rows column (cells F.field F.mean self.now.columns self.now.symbols.now) p) }
     {
-        (column..self.rows).find(|row| !self.is_zero(*row, column))
+        let mut rows = column..self.rows;
+        loop {
+            let row = rows.next()?;
+            if !self.is_zero(row, column) {
+                break Some(row);
+            }
+        }
     }
 
     // Exchanges two rows, column by column. `swap_with_slice` would ask for the slice in two parts, and for a case where both rows are one.
