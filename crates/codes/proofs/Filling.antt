@@ -21,11 +21,8 @@ end_put a k xs ys h =
 module _ {E : Type 0} {f : Operations E} (l : Laws f) where
   filled_codeword : (r : ℕ) (symbols rest : List E) → r ≤ f.reach → length rest ≡ r
       → Remainder f (symbols ++ zeros f r) (generator f r) rest → Codeword f r (symbols ++ negs f rest)
-  filled_codeword r symbols rest h e m = (syndromes_decide l r (symbols ++ negs f rest) long h).1 zero_at
+  filled_codeword r symbols rest h e m = (syndromes_decide l r (symbols ++ negs f rest) h).1 zero_at
     where
-      long : r ≤ length (symbols ++ negs f rest)
-      long = omega (arith, length-append symbols (negs f rest), length-map rest f.neg)
-
       -- the data with zeros behind have the values of the rest
       rest_at : (i : ℕ) → i < r → syndrome f (symbols ++ zeros f r) i ≡ syndrome f rest i
       rest_at i k =

@@ -57,7 +57,7 @@ module _ {E : Type 0} {f : Operations E} (l : Laws f) where
         none = distance-same l (map mean word)
 
         codeword : Codeword f r (map mean word)
-        codeword = (syndromes_decide l r (map mean word) (omega (arith, length-map word mean)) (omega arith)).1 z
+        codeword = (syndromes_decide l r (map mean word) (omega arith)).1 z
 
     module _ (r : ℕ) (word : List S) (places : List ℕ) (ys : List E) (s u : ℕ → E)
         (sized : r ≤ length word) (reach : length word ≤ f.reach) (syndromes : Syndromes f r (map mean word) s)
@@ -100,7 +100,7 @@ module _ {E : Type 0} {f : Operations E} (l : Laws f) where
         where
           codeword : Codeword f r (map mean after)
           codeword =
-              (syndromes_decide l r (map mean after) (omega (arith, length-map after mean, m.long)) (omega arith)).1
+              (syndromes_decide l r (map mean after) (omega arith)).1
               (λ i h. ap (λ v. syndrome f v i) m.elements ∙ left i h ∙ z i h)
 
           counted : count ≡ distance f (map mean word) (map mean after)

@@ -1,4 +1,4 @@
--- One step of a division in place: what stands at each place after it, and how the places are written one by one.
+-- How places are written one by one, and one step of a division in place: what stands at each place after it.
 use Rattle.std.proofs.Common.{◌≡◌, ℕ, zero, suc, ◌+◌, ◌<◌, ◌≤◌, List, [], ◌∷◌, ◌++◌, map, length, get_or, take, drop, set, sym, refl, ap, ◌∙◌, ap₂, append-nil, add-zero, add-one, arith, length-append, length-take-le, get_or-drop, take_all, drop-cons, take-suc, get_or-append-add}
 use lib.ListN.{length-map}
 use lib.Seq.{append_snoc, map-set, set_at, get_or_at}
@@ -100,7 +100,7 @@ module _ {E : Type 0} (f : Operations E) where
       (write (sym (get_or-map mean xs j d f.zero h) ∙ ap (λ ys. get_or ys j f.zero) so ∙ next_as_was f.zero new old j e (omega arith)))
       ∙ advance f.zero new old j e (omega arith)
 
-  -- the next place is written by a function that goes over all
+  -- a function is mapped over the places one by one, and the next is written
   pub next_mapped : {S : Type 0} (mean : S → E) (g : E → E) (xs : List S) (old : List E) (j : ℕ) (d x : S) → length xs ≡ length old → j < length xs
       → map mean xs ≡ take j (map g old) ++ drop j old → mean x ≡ g (mean (get_or xs j d)) → map mean (set xs j x) ≡ take (j + 1) (map g old) ++ drop (j + 1) old
   next_mapped mean g xs old j d x k h so e =

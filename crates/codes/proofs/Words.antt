@@ -1,15 +1,16 @@
 -- Codewords by their syndromes, and how far apart they are.
-use Rattle.std.proofs.Common.{◌≡◌, ℕ, zero, suc, ◌+◌, ◌*◌, ◌<◌, ◌≤◌, Bool, true, false, cond, List, [], ◌∷◌, length, sym, refl, ap, ◌∙◌, subst, ap₂, ⊎_elim, true≢false, arith}
-use lib.ListN.{length-map}
+use Rattle.std.proofs.Common.{◌≡◌, ℕ, zero, suc, ◌+◌, ◌*◌, ◌<◌, ◌≤◌, Bool, true, false, cond, List, [], ◌∷◌, ◌++◌, length, sym, refl, ap, ◌∙◌, subst, ap₂, ⊎_elim, true≢false, arith, length-append}
+use lib.ListN.{length-map, length-replicate}
 use Rattle.std.proofs.lemmas.Bool.{cases_lt}
 use Rattle.gf.specs.Theory.{Operations, Laws, pow}
-use Rattle.codes.specs.Polynomials.{value, scale, negs, over, times, coefficient}
+use Rattle.codes.specs.Polynomials.{zeros, value, scale, negs, over, times, coefficient}
 use Rattle.codes.specs.Codewords.{Fresh, Apart, generator, Codeword, syndrome, distance, power_sum, SyndromesDecide, MinimumDistance}
 use Rattle.codes.specs.Decoding.{weight}
 use Rattle.codes.proofs.Elements.{zero-mul, mul-zero, equal_of, equal_agree}
 use Rattle.codes.proofs.Lists.{cons, length_over, length-times, times_assoc, times-one}
+use Rattle.codes.proofs.Same.{leading}
 use Rattle.codes.proofs.Ring.{O, I, ◌⊕◌, ◌⊗◌, ⊝◌, ◌≐◌, ring₁, ring₂, ring₃}
-use Rattle.codes.proofs.Values.{horner, value-horner, pow-pow, value-times, value-over, value-negs, same_values}
+use Rattle.codes.proofs.Values.{horner, value-horner, pow-pow, value-append, value-zeros, value-times, value-over, value-negs, same_values}
 use Rattle.codes.proofs.PowerSums.{no_divisors, apart_minus, less, length-less, zero-less, few}
 
 module _ {E : Type 0} (f : Operations E) where
@@ -116,11 +117,26 @@ module _ {E : Type 0} {f : Operations E} (l : Laws f) where
           last : (p : List E) × (times f p (generator f r) ≡ d.0) → (q : List E) × (times f q (generator f (suc r)) ≡ c ∷ cs)
           last s = (s.0, generator-times r s.0 ∙ ap (λ q. times f q (linear f b)) s.1 ∙ d.2)
 
+  -- zeros in front, as many as there are checks, make every word long enough, and change neither its values nor the polynomial
   pub syndromes_decide : SyndromesDecide f
-  syndromes_decide r w h k = (codeword_syndromes r w, divided)
+  syndromes_decide r w k = (codeword_syndromes r w, divided)
     where
+      longer : List E
+      longer = zeros f r ++ w
+
+      long : r ≤ length longer
+      long = omega (arith, length-append (zeros f r) w, length-replicate r f.zero)
+
+      front : (x : E) → value f x longer ≡ value f x w
+      front x =
+          value-append l x (zeros f r) w
+          ∙ ap (λ y. f.add (f.mul y (pow f x (length w))) (value f x w)) (value-zeros l x r)
+          ∙ ring₂ l (λ y v. O ⊗ y ⊕ v ≐ v) tt (pow f x (length w)) (value f x w)
+
       divided : ((i : ℕ) → i < r → syndrome f w i ≡ f.zero) → Codeword f r w
-      divided z = let d = divides r w h k z in (d.0, λ j. ap (λ p. coefficient f p j) (sym d.1))
+      divided z =
+          let d = divides r longer long k (λ i h. front (pow f f.root i) ∙ z i h) in
+          (d.0, λ j. sym (leading f r w j) ∙ ap (λ p. coefficient f p j) (sym d.1))
 
   -- syndromes as sums of powers of the points of the places
 

@@ -47,13 +47,13 @@ module _ {E : Type 0} (f : Operations E) where
       (cs xs : List E) → length cs ≡ length xs → Apart xs
       → ((i : ℕ) → i < length xs → power_sum cs xs i ≡ f.zero) → cs ≡ zeros f (length cs)
 
-  -- A word is a codeword exactly where its first r syndromes are all zero.
+  -- A word is a codeword exactly where its first r syndromes are all zero, for every r up to the reach.
   abbrev pub SyndromesDecide : Type 0
   SyndromesDecide =
-      (r : ℕ) (w : List E) → r ≤ length w → r ≤ f.reach
+      (r : ℕ) (w : List E) → r ≤ f.reach
       → Codeword r w ↔ ((i : ℕ) → i < r → syndrome w i ≡ f.zero)
 
-  -- Two codewords of one length that differ in at most r places are equal.
+  -- Two codewords of one length, at most the reach, that differ in at most r places are equal.
   abbrev pub MinimumDistance : Type 0
   MinimumDistance =
       (r : ℕ) (u v : List E) → length u ≡ length v → length u ≤ f.reach

@@ -12,7 +12,7 @@ use gf::{Field, Refusal};
 // How many symbols a word has at most.
 pub const MAX_SYMBOLS: usize = 255;
 
-// How many of them are checks at most.
+// How many checks a word has at most.
 pub const MAX_CHECKS: usize = 16;
 
 // How many symbols a work buffer has.
@@ -81,7 +81,9 @@ fn correct_word<F: Field>(word: &mut [F], checks: usize, work: &mut [F]) -> Resu
     answer
 }
 
-// Writes the last symbols, as many as there are checks, so that the word is a codeword. The others stay as they are.
+// Writes the last symbols, as many as there are checks, so that the word is a codeword. The others stay as they are. `work` is
+// `WORK_SYMBOLS` symbols that mean zero, before and after. A word, a number of checks or a buffer that is not as admitted is refused, and
+// nothing is changed.
 pub fn encode<F: Field>(word: &mut [F], checks: usize, work: &mut [F]) -> Result<(), Refusal>
     ensures { Encoded F.field F.mean checks word.old word.new work.old work.new result }
 {
@@ -94,7 +96,7 @@ pub fn encode<F: Field>(word: &mut [F], checks: usize, work: &mut [F]) -> Result
 }
 
 // Makes the word the codeword that differs from it in at most half as many places as there are checks, and returns how many differ.
-// A word with no such codeword is refused and stays as it is.
+// A word with no such codeword is refused and stays as it is. `work` is as for `encode`, and so is what else is refused.
 pub fn correct<F: Field>(word: &mut [F], checks: usize, work: &mut [F]) -> Result<usize, Refusal>
     ensures answer { Correction F.field F.mean checks word.old word.new work.old work.new result }
     ensures vandermonde { Vandermonde F.field }

@@ -37,7 +37,7 @@ fn single<F: Field>(vector: &mut [F], free: usize)
 impl<'a, F: Field> Matrix<'a, F> {
     ghost use Rattle.codes.specs.Matrices.{SameShape};
 
-    // A matrix of whatever the symbols are.
+    // A matrix on these symbols, whatever they hold.
     pub(crate) fn new(symbols: &'a mut [F], rows: usize, columns: usize) -> Matrix<'a, F>
         requires { (rows * columns ≤ length symbols.old) × (rows < columns) }
         ensures { (result.rows ≡ rows) × (result.columns ≡ columns) }

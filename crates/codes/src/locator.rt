@@ -6,13 +6,14 @@ ghost use Rattle.codes.specs.Elimination.{cells, entries, Others};
 ghost use Rattle.codes.specs.Matrices.{SameShape};
 ghost use Rattle.codes.specs.Decoding.{point, terms_of, total, Locator, Suspects, Located, Recurring};
 
+use crate::code::MAX_CHECKS;
 use crate::elimination::Matrix;
 use crate::room::Room;
 use arrayvec::ArrayVec;
 use gf::Field;
 
 // How many errors can be corrected at most.
-pub(crate) const MAX_ERRORS: usize = 8;
+pub(crate) const MAX_ERRORS: usize = MAX_CHECKS / 2;
 
 // Fills a row with the syndromes from its number on, the latest first.
 fn fill_row<F: Field>(syndromes: &[F], matrix: &mut Matrix<F>, row: usize)

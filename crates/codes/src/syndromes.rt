@@ -42,7 +42,7 @@ pub(crate) fn write_syndromes<F: Field>(word: &[F], syndromes: &mut [F])
     }
 }
 
-// Whether all symbols mean zero. It does not stop early, so that many symbols are tested at once: `all` makes a clean row a quarter slower.
+// Whether all symbols mean zero. It does not stop early as `all` does, so that many symbols are tested at once.
 pub(crate) fn are_zero<F: Field>(symbols: &[F]) -> bool
     ensures { result ≡ all_zero F.field (map F.mean symbols.now) }
 {
