@@ -95,50 +95,58 @@ static int compare_doubles(const void *a, const void *b)
     return (x > y) - (x < y);
 }
 
-// The median over all rounds, in nanoseconds a row, of both on the same rows, turn by turn.
-static void time_rows(void *code, const char *name, int errors)
-{
-    static uint8_t made[TIMED_ROWS][SYMBOLS], rows[TIMED_ROWS][SYMBOLS];
-    double ours[ROUNDS], theirs[ROUNDS];
-    volatile int sink = 0;
-    for (int i = 0; i < TIMED_ROWS; i++)
-        make_row(code, made[i], errors);
-    for (int round = 0; round < ROUNDS; round++) {
-        memcpy(rows, made, sizeof rows);
-        double start = seconds();
-        for (int i = 0; i < TIMED_ROWS; i++)
-            sink += correct_with_rows(rows[i]);
-        ours[round] = seconds() - start;
-        memcpy(rows, made, sizeof rows);
-        start = seconds();
-        for (int i = 0; i < TIMED_ROWS; i++)
-            sink += correct_with_libfec(code, rows[i]);
-        theirs[round] = seconds() - start;
-    }
-    qsort(ours, ROUNDS, sizeof *ours, compare_doubles);
-    qsort(theirs, ROUNDS, sizeof *theirs, compare_doubles);
-    double a = ours[ROUNDS / 2] / TIMED_ROWS * 1e9, b = theirs[ROUNDS / 2] / TIMED_ROWS * 1e9;
-    printf("%-22s %8.0f ns %8.0f ns   %5.2f times as fast\n", name, a, b, b / a);
-}
-
 typedef struct {
     long same, refused, different;
 } Tally;
 
-// Corrects a row with both, and compares the answers and every byte.
+// Counts what both made of a row: the answers and every byte have to agree, and a refused row is as it was.
+static void count_row(Tally *tally, const uint8_t *made, const uint8_t *ours, int answer, const uint8_t *theirs, int their_answer)
+{
+    if (answer != their_answer || memcmp(ours, theirs, SYMBOLS) != 0 || (answer == -1 && memcmp(ours, made, SYMBOLS) != 0)) {
+        tally->different++;
+        return;
+    }
+    tally->same++;
+    tally->refused += answer == -1;
+}
+
+// Corrects a row with both.
 static void compare(void *code, const uint8_t *made, Tally *tally)
 {
     uint8_t ours[SYMBOLS], theirs[SYMBOLS];
     memcpy(ours, made, SYMBOLS);
     memcpy(theirs, made, SYMBOLS);
-    int a = correct_with_rows(ours);
-    int b = correct_with_libfec(code, theirs);
-    if (a != b || memcmp(ours, theirs, SYMBOLS) != 0 || (a == -1 && memcmp(ours, made, SYMBOLS) != 0)) {
-        tally->different++;
-        return;
+    int answer = correct_with_rows(ours);
+    int their_answer = correct_with_libfec(code, theirs);
+    count_row(tally, made, ours, answer, theirs, their_answer);
+}
+
+// The median over all rounds, in nanoseconds a row, of both on the same rows, turn by turn; what the last round made of them is compared.
+static void time_rows(void *code, const char *name, int errors, Tally *tally)
+{
+    static uint8_t made[TIMED_ROWS][SYMBOLS], ours[TIMED_ROWS][SYMBOLS], theirs[TIMED_ROWS][SYMBOLS];
+    static int answers[TIMED_ROWS], their_answers[TIMED_ROWS];
+    double times[ROUNDS], their_times[ROUNDS];
+    for (int i = 0; i < TIMED_ROWS; i++)
+        make_row(code, made[i], errors);
+    for (int round = 0; round < ROUNDS; round++) {
+        memcpy(ours, made, sizeof ours);
+        double start = seconds();
+        for (int i = 0; i < TIMED_ROWS; i++)
+            answers[i] = correct_with_rows(ours[i]);
+        times[round] = seconds() - start;
+        memcpy(theirs, made, sizeof theirs);
+        start = seconds();
+        for (int i = 0; i < TIMED_ROWS; i++)
+            their_answers[i] = correct_with_libfec(code, theirs[i]);
+        their_times[round] = seconds() - start;
     }
-    tally->same++;
-    tally->refused += a == -1;
+    for (int i = 0; i < TIMED_ROWS; i++)
+        count_row(tally, made[i], ours[i], answers[i], theirs[i], their_answers[i]);
+    qsort(times, ROUNDS, sizeof *times, compare_doubles);
+    qsort(their_times, ROUNDS, sizeof *their_times, compare_doubles);
+    double a = times[ROUNDS / 2] / TIMED_ROWS * 1e9, b = their_times[ROUNDS / 2] / TIMED_ROWS * 1e9;
+    printf("%-22s %8.0f ns %8.0f ns   %5.2f times as fast\n", name, a, b, b / a);
 }
 
 static void print_tally(const char *name, const Tally *tally)
@@ -155,25 +163,26 @@ int main(void)
         return 2;
     }
     printf("%-22s %11s %11s\n", "rows of 120, 10 checks", "rows", "libfec");
-    time_rows(code, "clean", 0);
-    time_rows(code, "1 error", 1);
-    time_rows(code, "3 errors", 3);
-    time_rows(code, "5 errors", 5);
-    time_rows(code, "beyond repair (8)", 8);
+    Tally timed = {0}, random = {0}, outside = {0};
+    time_rows(code, "clean", 0, &timed);
+    time_rows(code, "1 error", 1, &timed);
+    time_rows(code, "3 errors", 3, &timed);
+    time_rows(code, "5 errors", 5, &timed);
+    time_rows(code, "beyond repair (8)", 8, &timed);
+    print_tally("the rows timed", &timed);
 
     uint8_t made[SYMBOLS];
-    Tally random = {0}, outside = {0};
     for (long i = 0; i < COMPARED_ROWS; i++) {
         make_row(code, made, (int)random_below(MOST_ERRORS + 1));
         compare(code, made, &random);
     }
-    print_tally("1000000 rows with 0 to 12 errors", &random);
+    print_tally("rows with 0 to 12 errors", &random);
     for (long i = 0; i < OUTSIDE_ROWS; i++) {
         make_outside_row(whole, made, (int)random_below(CHECKS / 2));
         compare(code, made, &outside);
     }
-    print_tally("100000 rows near a codeword that does not fit the row", &outside);
+    print_tally("rows near a codeword that does not fit the row", &outside);
     free_rs_char(code);
     free_rs_char(whole);
-    return random.different + outside.different == 0 ? 0 : 1;
+    return timed.different + random.different + outside.different == 0 ? 0 : 1;
 }

@@ -16,6 +16,19 @@ impl fmt::Display for Answer {
     }
 }
 
+// What filling the checks answered.
+#[derive(Drop)]
+struct Filling(Result<(), Refusal>);
+
+impl fmt::Display for Filling {
+    fn fmt<W: fmt::Write>(&self, f: &mut fmt::Formatter<W>) -> fmt::Result {
+        match self.0 {
+            Ok(()) => write!(f, "done"),
+            Err(refusal) => write!(f, "{refusal}"),
+        }
+    }
+}
+
 // The sizes of a word of zeros and a work buffer of zeros.
 #[derive(Clone, Copy)]
 struct Shape {
@@ -34,7 +47,7 @@ impl Shape {
     }
 }
 
-// The two that fill checks are two, since each prints other symbols in another way.
+// Not one function with `print_row_checks`, since each prints its symbols in another way.
 fn print_nibble_checks(rt: &HostRuntime) -> anyhow::Result<()> {
     let mut work = [Gf16(0); WORK_SYMBOLS];
     let mut word = [Gf16(1), Gf16(0), Gf16(0)];
@@ -65,25 +78,51 @@ fn print_row_checks(rt: &HostRuntime) -> anyhow::Result<()> {
     Ok(())
 }
 
-// Corrects a row, and prints the answer and how many of its bytes are not zero.
-fn print_correction(rt: &HostRuntime, name: &str, row: &mut [Gf256]) -> anyhow::Result<()> {
+// Corrects a word, and prints the answer, how many of its bytes are not zero then, and how many have changed.
+fn print_correction<const SYMBOLS: usize>(
+    rt: &HostRuntime,
+    name: &str,
+    word: [Gf256; SYMBOLS],
+    checks: usize,
+) -> anyhow::Result<()> {
     let mut work = [Gf256(0); WORK_SYMBOLS];
-    let answer = Answer(correct(row, 10, &mut work));
-    let nonzero = row.iter().filter(|symbol| symbol.0 != 0).count();
-    println!(rt; "{name}: {answer}, {nonzero} bytes are not zero")?;
+    let mut corrected = word;
+    let answer = Answer(correct(&mut corrected, checks, &mut work));
+    let nonzero = corrected.iter().filter(|symbol| symbol.0 != 0).count();
+    let changed = word
+        .iter()
+        .zip(&corrected)
+        .filter(|(before, after)| before.0 != after.0)
+        .count();
+    println!(rt; "{name}: {answer}, {nonzero} bytes are not zero, {changed} have changed")?;
     Ok(())
 }
 
 fn print_corrections(rt: &HostRuntime) -> anyhow::Result<()> {
     let mut row = [Gf256(0); 120];
     row[109..114].copy_from_slice(&[0x01, 0xD8, 0xC2, 0x9F, 0x6F].map(Gf256));
-    print_correction(rt, "01 D8 C2 9F 6F from byte 109 on", &mut row)?;
+    print_correction(rt, "01 D8 C2 9F 6F from byte 109 on", row, 10)?;
     let mut row = [Gf256(0); 120];
     row[..6].copy_from_slice(&[0xC7, 0x5E, 0x5F, 0x71, 0x9D, 0xC1].map(Gf256));
-    print_correction(rt, "C7 5E 5F 71 9D C1 at the front", &mut row)
+    print_correction(rt, "C7 5E 5F 71 9D C1 at the front", row, 10)?;
+    let mut word = [Gf256(0); 255];
+    word[..8].fill(Gf256(1));
+    print_correction(
+        rt,
+        "255 bytes with 16 checks, 8 ones at the front",
+        word,
+        16,
+    )?;
+    word[8] = Gf256(1);
+    print_correction(
+        rt,
+        "255 bytes with 16 checks, 9 ones at the front",
+        word,
+        16,
+    )
 }
 
-// Tries to correct words of zeros.
+// Tries to fill the checks of words of zeros, and to correct them.
 fn print_shapes<F: Field>(rt: &HostRuntime, field: &str, shapes: &[Shape]) -> anyhow::Result<()> {
     for shape in shapes {
         let Shape {
@@ -93,8 +132,11 @@ fn print_shapes<F: Field>(rt: &HostRuntime, field: &str, shapes: &[Shape]) -> an
         } = *shape;
         let mut word = vec![in rt.alloc(); F::zero(); symbols]?;
         let mut work = vec![in rt.alloc(); F::zero(); places]?;
+        let filling = Filling(encode(&mut word, checks, &mut work));
         let answer = Answer(correct(&mut word, checks, &mut work));
-        println!(rt; "{field}: {symbols} zeros, checks {checks}, work {places}: {answer}")?;
+        println!(rt;
+            "{field}: {symbols} zeros, checks {checks}, work {places}; filling: {filling}; correcting: {answer}"
+        )?;
     }
     Ok(())
 }
@@ -103,6 +145,7 @@ fn print_byte_shapes(rt: &HostRuntime) -> anyhow::Result<()> {
     let shapes = [
         Shape::new(0, 1, 512),
         Shape::new(5, 0, 512),
+        Shape::new(5, 6, 512),
         Shape::new(5, 5, 512),
         Shape::new(5, 4, 512),
         Shape::new(200, 16, 512),
@@ -118,13 +161,18 @@ fn print_byte_shapes(rt: &HostRuntime) -> anyhow::Result<()> {
 fn print_smaller_shapes(rt: &HostRuntime) -> anyhow::Result<()> {
     let nibbles = [Shape::new(15, 2, 512), Shape::new(16, 2, 512)];
     print_shapes::<Gf16>(rt, "Gf16", &nibbles)?;
-    let bits = [Shape::new(1, 1, 512), Shape::new(2, 1, 512)];
+    let bits = [
+        Shape::new(1, 1, 512),
+        Shape::new(2, 1, 512),
+        Shape::new(3, 2, 512),
+        Shape::new(255, 16, 512),
+    ];
     print_shapes::<Gf2>(rt, "Gf2", &bits)
 }
 
 // A work buffer with a symbol that does not mean zero, and one with a symbol that does, though it is not stored as zero.
 fn print_work(rt: &HostRuntime) -> anyhow::Result<()> {
-    for (name, last) in [("a one", Gf16(1)), ("10", Gf16(0x10))] {
+    for (name, last) in [("01 hex", Gf16(1)), ("10 hex", Gf16(0x10))] {
         let mut work = [Gf16(0); WORK_SYMBOLS];
         work[WORK_SYMBOLS - 1] = last;
         let answer = Answer(correct(&mut [Gf16(0); 4], 2, &mut work));
