@@ -107,7 +107,11 @@ fn first_crowded(starts: &[u16]) -> Option<u8>
     requires { (1 ≤ length starts.now) × (length starts.now ≤ 7) }
     ensures { result ≡ crowded starts.now 1 (length starts.now - 1) }
 {
-    let is_near = |(start, next): (&u16, &u16)| usize::from(*next) < usize::from(*start) + 3;
-    let before = starts.iter().zip(&starts[1..]).position(is_near)?;
-    Some(before as u8 + 1)
+    let mut numbers = 1..starts.len();
+    loop {
+        let number = numbers.next()?;
+        if usize::from(starts[number]) < usize::from(starts[number - 1]) + 3 {
+            break Some(number as u8);
+        }
+    }
 }
