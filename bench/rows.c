@@ -110,7 +110,7 @@ static void count_row(Tally *tally, const uint8_t *made, const uint8_t *ours, in
     tally->refused += answer == -1;
 }
 
-// Corrects a row with both.
+// Corrects a row with both, and counts what they made of it.
 static void compare(void *code, const uint8_t *made, Tally *tally)
 {
     uint8_t ours[SYMBOLS], theirs[SYMBOLS];
@@ -168,7 +168,7 @@ int main(void)
     time_rows(code, "1 error", 1, &timed);
     time_rows(code, "3 errors", 3, &timed);
     time_rows(code, "5 errors", 5, &timed);
-    time_rows(code, "beyond repair (8)", 8, &timed);
+    time_rows(code, "8 errors", 8, &timed);
     print_tally("the rows timed", &timed);
 
     uint8_t made[SYMBOLS];
