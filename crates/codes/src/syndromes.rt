@@ -8,7 +8,8 @@ use crate::division::clear;
 use gf::Field;
 
 // Takes the next symbol of a word into each value, and each value on by the power of the root that its place says. The product comes
-// last: with the sum last the compiler packs eight values into one register to add, and unpacks them to multiply, in twice the time.
+// last: with the sum last a clean row takes twice the time, more than half of that since the compiler packs eight values into one
+// register to add and unpacks them to multiply.
 fn take_in<F: Field>(syndromes: &mut [F], symbol: F)
     requires { length syndromes.old ≤ 16 }
     ensures { Taken F.field (length syndromes.old) (F.mean symbol) (entries F.field F.mean syndromes.old) (entries F.field F.mean syndromes.new) }
