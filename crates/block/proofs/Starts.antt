@@ -1,7 +1,7 @@
 -- The starts of a header, one by one, and the search for a crowded one.
-use Rattle.std.proofs.Common.{◌≡◌, ℕ, take, drop, length-take, zero, suc, ◌+◌, ◌-◌, ◌*◌, ◌%◌, ◌<◌, ◌≤◌, Bool, true, false, cond, not, ◌||◌, eqb, ltb, List, [], ◌∷◌, map, length, get_or, Some, sym, refl, ap, ◌∙◌, ap₂, arith, le-ltb, eq-eqb, ne_eqb}
+use Rattle.std.proofs.Common.{◌≡◌, ℕ, take, length-take, zero, suc, ◌+◌, ◌-◌, ◌*◌, ◌%◌, ◌<◌, ◌≤◌, Bool, true, false, cond, not, ◌||◌, eqb, ltb, List, [], ◌∷◌, map, length, get_or, Some, sym, refl, ap, ◌∙◌, ap₂, arith, le-ltb, eq-eqb, ne_eqb}
 use borrow.Author.Tests.{clash}
-use Rattle.std.proofs.lemmas.List.{get_or-take, get_or-drop}
+use Rattle.std.proofs.lemmas.List.{get_or-take}
 use Rattle.block.specs.declared.parameters.DacRate.{DacRate}
 use Rattle.block.specs.declared.parameters.DacRate.TheVariants.{Khz32, Khz48}
 use Rattle.block.specs.declared.parameters.Layout.{Layout}
@@ -56,19 +56,11 @@ crowded_front xs units h =
     ap (crowded (take (units + 1) xs) 1) long ∙ crowded_taken xs (units + 1) units 1 (omega arith) (omega arith)
 
 -- the alignment bits
-pub fills_where : (l : Layout) (bytes : List ℕ) → Fits l → l.aligned ≡ true
-    → eqb (get_or bytes (l.header_length - 1) 0 % 16) 0 ≡ fills l (drop 3 bytes)
-fills_where l bytes f e =
-    ap (λ (x : ℕ). eqb x 0)
-    (sym (ap (λ (from : ℕ). unsigned packed from 4) place ∙ unsigned_lower packed (l.header_length - 4)
-    ∙ ap (λ (byte : ℕ). byte % 16) (get_or-drop 3 bytes (l.header_length - 4) 0 ∙ ap (λ (k : ℕ). get_or bytes k 0) there)))
+pub fills_where : (l : Layout) (packed : List ℕ) → Fits l → l.aligned ≡ true
+    → eqb (get_or packed (l.header_length - 4) 0 % 16) 0 ≡ fills l packed
+fills_where l packed f e =
+    ap (λ (x : ℕ). eqb x 0) (sym (ap (λ (from : ℕ). unsigned packed from 4) place ∙ unsigned_lower packed (l.header_length - 4)))
     ∙ sym (ap (λ a. not a || eqb (unsigned packed (12 * (l.units - 1)) 4) 0) e)
   where
-    packed : List ℕ
-    packed = drop 3 bytes
-
     place : 12 * (l.units - 1) ≡ 8 * (l.header_length - 4) + 4
     place = omega (arith, f.ends e, f.long)
-
-    there : 3 + (l.header_length - 4) ≡ l.header_length - 1
-    there = omega (arith, f.long)

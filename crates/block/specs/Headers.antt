@@ -40,10 +40,22 @@ abbrev pub unless : {A : Type 0} → List (Bool × Refusal) → A → Result A R
 unless [] value = Ok value
 unless (c ∷ cs) value = cond c.0 (Err c.1) (unless cs value)
 
--- the refusals of every call on a block: the size is not 1 to 24, or the buffer has not 120 bytes times the size; then others
+-- the first of the refusals whose condition holds
+abbrev pub first_refusal : List (Bool × Refusal) → Option Refusal
+first_refusal [] = None
+first_refusal (c ∷ cs) = cond c.0 (Some c.1) (first_refusal cs)
+
+-- the refusal of every call that is given a size: it is not 1 to 24; then others
+abbrev pub of_size : ℕ → List (Bool × Refusal) → List (Bool × Refusal)
+of_size size others = (not (nat_le 1 size && nat_le size 24), Size) ∷ others
+
+-- the refusal of every call on a block of a size: the buffer has not 120 bytes times the size; then others
+abbrev pub of_buffer : ℕ → List ℕ → List (Bool × Refusal) → List (Bool × Refusal)
+of_buffer size block others = (not (length block == 120 * size), Buffer) ∷ others
+
+-- the refusals of every call that is given both
 abbrev pub of_block : ℕ → List ℕ → List (Bool × Refusal) → List (Bool × Refusal)
-of_block size block others =
-    (not (nat_le 1 size && nat_le size 24), Size) ∷ (not (length block == 120 * size), Buffer) ∷ others
+of_block size block others = of_size size (of_buffer size block others)
 
 -- the layout that the parameter byte asks for
 abbrev pub layout_of : List ℕ → Layout
@@ -96,11 +108,6 @@ check_fits h block n =
     let begin = slice_index h.starts n in
     let end = slice_index h.starts (n + 1) - 2 in
     (unit_check (slice_range block begin end) == word block end)
-
--- Whether unit n's check is right, or the refusal.
-abbrev pub good : Header → List ℕ → ℕ → Result Bool Refusal
-good h block n =
-    unless (of_block h.size block ((not (there h n && nat_le (slice_index h.starts (n + 1)) (length block)), Index) ∷ [])) (check_fits h block n)
 
 -- The units of a header stand one behind another from the header's end to the super frame's, each with a byte at least and its check.
 pub record Tiles (h : Header) : Type 0 where

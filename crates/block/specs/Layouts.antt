@@ -1,5 +1,5 @@
 -- The parameter byte, and the layout of a super frame that follows from it.
-use Rattle.std.specs.Prelude.{ℕ, ◌+◌, ◌*◌, Bool, true, false, cond, not, ◌&&◌, ◌||◌, [], ◌∷◌, Ok, Err, Result, ◌==◌}
+use Rattle.std.specs.Prelude.{ℕ, ◌+◌, ◌*◌, Bool, true, false, cond, not, ◌&&◌, ◌||◌, [], ◌∷◌, Ok, Err, Result, ◌==◌, nat_le}
 use Rattle.gf.specs.declared.refusal.Refusal.{Refusal}
 use Rattle.gf.specs.declared.refusal.Refusal.TheVariants as refusals
 use Rattle.block.specs.declared.fault.HeaderFault.{HeaderFault}
@@ -41,9 +41,17 @@ parameters byte = record {
   surround = bit (byte ∷ []) 5 * 4 + bit (byte ∷ []) 6 * 2 + bit (byte ∷ []) 7;
 }
 
--- the reserved bit is 0, and ps goes only with sbr and mono
+abbrev pub is_mono : ChannelMode → Bool
+is_mono Mono = true
+is_mono Stereo = false
+
+-- ps goes only with sbr and mono
+abbrev pub keeps_ps_rule : Parameters → Bool
+keeps_ps_rule p = not p.ps || (p.sbr && is_mono p.mode)
+
+-- a header can say this: the reserved bit is 0, and ps goes only with sbr and mono
 abbrev pub right : ℕ → Bool
-right byte = not (flag byte 0) && (not (flag byte 4) || (flag byte 2 && not (flag byte 3)))
+right byte = not (flag byte 0) && keeps_ps_rule (parameters byte)
 
 -- a parameter byte as it is read
 abbrev pub read : ℕ → Result Parameters HeaderFault
@@ -55,3 +63,7 @@ layout Khz32 true = record { units = 2; header_length = 5; aligned = true }
 layout Khz48 true = record { units = 3; header_length = 6; aligned = false }
 layout Khz32 false = record { units = 4; header_length = 8; aligned = true }
 layout Khz48 false = record { units = 6; header_length = 11; aligned = true }
+
+-- settings can say this: surround has three bits, and ps goes only with sbr and mono
+abbrev pub sendable : Parameters → Bool
+sendable p = nat_le p.surround 7 && keeps_ps_rule p

@@ -1,7 +1,15 @@
 -- What the promises of this crate are made in: bits of bytes, check words, and the header of a super frame.
 pub mod Bytes
+pub mod BlockRows
 pub mod Checks
 pub mod Layouts
 pub mod Headers
 pub mod Stages
+pub mod SuperFrames
+pub mod Places
+pub mod Writing
+pub mod WritingSteps
+pub mod Laws
+pub mod States
+pub mod Examples
 pub mod Texts

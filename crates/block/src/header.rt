@@ -1,8 +1,7 @@
-// The header of a super frame: the starts of its units, and whether their checks are right.
+// The header of a super frame: its parameters, and where its units stand.
 ghost use Rattle.std.specs.Prelude.{◌≡◌, IfOk};
-ghost use Rattle.block.specs.Headers.{header, unit_at, good, Tiles};
+ghost use Rattle.block.specs.Headers.{header, unit_at, Tiles};
 
-use super::checks::unit_check;
 use super::parameters::Parameters;
 use super::sized_block::SizedBlock;
 use gf::Refusal;
@@ -25,7 +24,7 @@ pub struct UnitPlace {
 }
 
 // Reads the header of a block; the size is the subchannel index, and the block has 120 times as many bytes.
-pub fn read_header(size: usize, block: &[u8]) -> Result<Header, Refusal>
+pub(crate) fn read_header(size: usize, block: &[u8]) -> Result<Header, Refusal>
     ensures value { result ≡ header size block.now }
     ensures tiles { IfOk result Tiles }
 {
@@ -50,17 +49,5 @@ impl Header {
             place,
             length: end - place - 2,
         })
-    }
-
-    // Whether the check behind unit `n` of the block is right.
-    pub fn unit_is_good(&self, block: &[u8], n: usize) -> Result<bool, Refusal>
-        ensures { result ≡ good self.now block.now n }
-    {
-        let bytes = SizedBlock::new(self.size, block)?.bytes;
-        let UnitPlace { place, length } = self.unit(n)?;
-        let end = usize::from(self.starts[n + 1]);
-        let checked = bytes.get(place..end).ok_or(Refusal::Index)?;
-        let (unit, check) = checked.split_at(length);
-        Ok(unit_check(unit) == u16::from_be_bytes([check[0], check[1]]))
     }
 }

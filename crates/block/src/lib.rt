@@ -4,10 +4,22 @@
 mod checks;
 mod fault;
 mod header;
+mod making;
+mod packed_starts;
 mod parameters;
+mod reader;
+mod refused;
+mod rows;
+mod settings;
 mod sized_block;
+mod writer;
 
 pub use checks::{fire_word, unit_check};
 pub use fault::HeaderFault;
-pub use header::{Header, UnitPlace, read_header};
+pub use header::{Header, UnitPlace};
+pub use making::make_super_frame;
 pub use parameters::{ChannelMode, DacRate, Layout, Parameters};
+pub use reader::{AccessUnit, Opened, Received, Repaired};
+pub use refused::Refused;
+pub use settings::Settings;
+pub use writer::{OpenWriter, SealedWriter};

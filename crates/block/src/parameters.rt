@@ -1,22 +1,22 @@
 // The parameters of a super frame, and the layout that follows from them.
 ghost use Rattle.std.specs.Prelude.{◌≡◌, ◌<◌, Some};
-ghost use Rattle.block.specs.Layouts.{flag, read, layout};
+ghost use Rattle.block.specs.Layouts.{flag, keeps_ps_rule, read, layout};
 ghost use Rattle.block.specs.Texts.{rate_text, mode_text, parameters_text};
 
 use super::fault::HeaderFault;
 use std::fmt;
 
-// The sampling rate of the decoder's output.
+// The sampling rate of the decoder's output. The numbers are those of its bit in the parameter byte, and so with the channel mode.
 #[derive(Clone, Copy, PartialEq, Eq, Debug)]
 pub enum DacRate {
-    Khz32,
-    Khz48,
+    Khz32 = 0,
+    Khz48 = 1,
 }
 
 #[derive(Clone, Copy, PartialEq, Eq, Debug)]
 pub enum ChannelMode {
-    Mono,
-    Stereo,
+    Mono = 0,
+    Stereo = 1,
 }
 
 // What the parameter byte says of the audio.
@@ -40,6 +40,34 @@ pub struct Layout {
     pub aligned: bool,
 }
 
+// By the rate and by whether sbr is used.
+const LAYOUTS: [[Layout; 2]; 2] = [
+    [
+        Layout {
+            units: 4,
+            header_length: 8,
+            aligned: true,
+        },
+        Layout {
+            units: 2,
+            header_length: 5,
+            aligned: true,
+        },
+    ],
+    [
+        Layout {
+            units: 6,
+            header_length: 11,
+            aligned: true,
+        },
+        Layout {
+            units: 3,
+            header_length: 6,
+            aligned: false,
+        },
+    ],
+];
+
 // Whether a bit of the byte is 1, the top bit being bit 0.
 fn is_set(byte: u8, place: u32) -> bool
     requires { place < 8 }
@@ -62,23 +90,22 @@ impl TryFrom<u8> for Parameters {
             DacRate::Khz32
         };
         let sbr = is_set(byte, 2);
-        let stereo = is_set(byte, 3);
-        let mode = if stereo {
+        let mode = if is_set(byte, 3) {
             ChannelMode::Stereo
         } else {
             ChannelMode::Mono
         };
-        let ps = is_set(byte, 4);
-        if reserved || ps && (stereo || !sbr) {
-            return Err(HeaderFault::Parameters);
-        }
-        Ok(Parameters {
+        let parameters = Parameters {
             dac,
             sbr,
             mode,
-            ps,
+            ps: is_set(byte, 4),
             surround: byte % 8,
-        })
+        };
+        if reserved || !parameters.keeps_ps_rule() {
+            return Err(HeaderFault::Parameters);
+        }
+        Ok(parameters)
     }
 }
 
@@ -86,28 +113,14 @@ impl Parameters {
     pub fn layout(&self) -> Layout
         ensures { result ≡ layout self.now.dac self.now.sbr }
     {
-        match (self.dac, self.sbr) {
-            (DacRate::Khz32, true) => Layout {
-                units: 2,
-                header_length: 5,
-                aligned: true,
-            },
-            (DacRate::Khz48, true) => Layout {
-                units: 3,
-                header_length: 6,
-                aligned: false,
-            },
-            (DacRate::Khz32, false) => Layout {
-                units: 4,
-                header_length: 8,
-                aligned: true,
-            },
-            (DacRate::Khz48, false) => Layout {
-                units: 6,
-                header_length: 11,
-                aligned: true,
-            },
-        }
+        LAYOUTS[self.dac as usize][usize::from(self.sbr)]
+    }
+
+    // Parametric stereo goes only with sbr and mono.
+    pub(crate) fn keeps_ps_rule(&self) -> bool
+        ensures { result ≡ keeps_ps_rule self.now }
+    {
+        !self.ps || self.sbr && self.mode == ChannelMode::Mono
     }
 }
 

@@ -19,7 +19,7 @@ end_put a k xs ys h =
     ap (λ end. take a xs ++ (ys ++ end)) (drop_all k (drop a xs) (omega (arith, length-drop a xs))) ∙ ap (λ end. take a xs ++ end) (append-nil ys)
 
 module _ {E : Type 0} {f : Operations E} (l : Laws f) where
-  filled_codeword : (r : ℕ) (symbols rest : List E) → r ≤ f.reach → length rest ≡ r
+  pub filled_codeword : (r : ℕ) (symbols rest : List E) → r ≤ f.reach → length rest ≡ r
       → Remainder f (symbols ++ zeros f r) (generator f r) rest → Codeword f r (symbols ++ negs f rest)
   filled_codeword r symbols rest h e m = (syndromes_decide l r (symbols ++ negs f rest) h).1 zero_at
     where
@@ -62,7 +62,7 @@ module _ {E : Type 0} {f : Operations E} (l : Laws f) where
       by false c h = absurd (clash c)
 
   -- a codeword is known by its data
-  same_data : (r : ℕ) (u v : List E) → length u ≡ length v → r ≤ length u → length u ≤ f.reach
+  pub same_data : (r : ℕ) (u v : List E) → length u ≡ length v → r ≤ length u → length u ≤ f.reach
       → take (length u - r) u ≡ take (length u - r) v → Codeword f r u → Codeword f r v → u ≡ v
   same_data r u v e h n t c d =
       minimum_distance l r u v e n c d (omega (arith, distance-take (length u - r) u v e t))

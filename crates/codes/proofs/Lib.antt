@@ -12,6 +12,7 @@ pub mod Values
 pub mod PowerSums
 pub mod Words
 pub mod Filling
+pub mod ChecksOf
 pub mod Generating
 pub mod Shapes
 pub mod Suspects

@@ -1,9 +1,10 @@
 -- The check code over a field: its codewords, how far they are apart, and what filling checks and correcting answer.
-use Rattle.std.specs.Prelude.{◌≡◌, ℕ, zero, suc, ◌-◌, ◌*◌, ◌<◌, ◌≤◌, Bool, true, cond, ◌&&◌, ◌↔◌, List, [], ◌∷◌, map, length, take, Ok, Err, MatchBool, Result, ◌==◌, ◌≢◌, nat_le, slice_index_or}
+use Rattle.std.specs.Prelude.{◌≡◌, ℕ, zero, suc, ◌-◌, ◌*◌, ◌<◌, ◌≤◌, Bool, true, cond, ◌&&◌, ◌↔◌, List, [], ◌∷◌, ◌++◌, map, length, take, Ok, Err, MatchBool, Result, ◌==◌, ◌≢◌, nat_le, slice_index_or}
 use Rattle.gf.specs.declared.refusal.Refusal.{Refusal}
 use Rattle.gf.specs.declared.refusal.Refusal.TheVariants.{Shape, BeyondRepair}
 use Rattle.gf.specs.Theory.{Operations, pow}
-use Rattle.codes.specs.Polynomials.{zeros, times, value, Same}
+use Rattle.codes.specs.Polynomials.{zeros, negs, times, value, Same}
+use Rattle.codes.specs.Division.{remainder_of}
 
 -- x is none of these
 abbrev pub Fresh : {A : Type 0} → A → List A → Type 0
@@ -40,6 +41,10 @@ module _ {E : Type 0} (f : Operations E) where
   power_sum [] xs i = f.zero
   power_sum (c ∷ cs) [] i = f.zero
   power_sum (c ∷ cs) (x ∷ xs) i = f.add (f.mul c (pow f x i)) (power_sum cs xs i)
+
+  -- The checks of data symbols: the negatives of what the data with r zeros behind leave when divided by the generator.
+  abbrev pub checks_of : ℕ → List E → List E
+  checks_of r symbols = negs f (remainder_of f (symbols ++ zeros f r) (generator r))
 
   -- Vandermonde: at m different points, coefficients whose first m power sums are all zero are zero.
   abbrev pub Vandermonde : Type 0

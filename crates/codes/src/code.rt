@@ -19,7 +19,7 @@ pub const MAX_CHECKS: usize = 16;
 pub const WORK_SYMBOLS: usize = 512;
 
 // Whether the code has words of so many symbols with so many checks.
-fn has_shape<F: Field>(symbols: usize, checks: usize) -> bool
+pub fn has_shape<F: Field>(symbols: usize, checks: usize) -> bool
     ensures { result ≡ code_shape F.field symbols checks }
 {
     (1..=MAX_CHECKS).contains(&checks)

@@ -11,5 +11,5 @@ mod locator;
 mod room;
 mod syndromes;
 
-pub use code::{MAX_CHECKS, MAX_SYMBOLS, WORK_SYMBOLS, correct, encode};
+pub use code::{MAX_CHECKS, MAX_SYMBOLS, WORK_SYMBOLS, correct, encode, has_shape};
 pub use division::{continue_remainder, remainder};

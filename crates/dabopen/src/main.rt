@@ -1,28 +1,38 @@
-// Opens recorded super frames: prints what each header says, and whether each unit's check is right.
+// Opens recorded super frames: corrects their rows, prints what each header says and whether each unit's check is right, and writes
+// the good units to files.
 #![tactic(auto)]
 
+mod args;
 mod failure;
+mod files;
 mod input;
 mod report;
+mod steps;
 mod subchannel;
+mod tally;
 
+use args::{Recording, Request, USAGE, read_request};
 use failure::Failure;
+use files::make_folder;
 use input::fill;
 use report::Report;
-use std::env;
 use std::fs::File;
 use std::io::Read;
 use std::process::ExitCode;
 use subchannel::SubchannelIndex;
 
-// Opens block after block until the input ends.
+// Opens block after block until the input ends. One block is in memory at a time.
 fn open_all<R: Read>(
     rt: &HostRuntime,
     size: SubchannelIndex,
+    folder: Option<String>,
     input: &mut R,
 ) -> Result<(), Failure> {
+    if let Some(folder) = &folder {
+        make_folder(rt, folder)?;
+    }
     let mut block = vec![in rt.alloc(); 0u8; size.block_length()]?;
-    let mut report = Report::new(rt, size);
+    let mut report = Report::new(rt, size, folder);
     let mut unfinished = 0;
     // The bound is never reached, and is there since a loop over input has to have one.
     for _ in 0..u64::MAX {
@@ -31,32 +41,30 @@ fn open_all<R: Read>(
             unfinished = filled;
             break;
         }
-        report.print_block(&block)?;
+        report.print_block(&mut block)?;
     }
     report.print_end(unfinished)?;
     Ok(())
 }
 
-fn run(rt: &HostRuntime) -> Result<(), Failure> {
-    let mut words = env::args(rt)?;
-    let _ = words.next();
-    let Some(size_word) = words.next() else {
-        return Err(Failure::Usage);
-    };
-    let file_word = words.next();
-    let help = size_word.as_str() == "--help" || size_word.as_str() == "-h";
-    if help || words.next().is_some() {
-        return Err(Failure::Usage);
-    }
-    let Ok(size) = size_word.as_str().parse() else {
-        return Err(Failure::Size(size_word));
-    };
-    match file_word {
-        None => open_all(rt, size, &mut rt.stdin()),
+fn open_recording(rt: &HostRuntime, recording: Recording) -> Result<(), Failure> {
+    let Recording { size, file, units } = recording;
+    match file {
+        None => open_all(rt, size, units, &mut rt.stdin()),
         Some(path) => match File::open(rt, path.as_str()) {
-            Ok(mut file) => open_all(rt, size, &mut file),
+            Ok(mut input) => open_all(rt, size, units, &mut input),
             Err(_) => Err(Failure::NoFile(path)),
         },
+    }
+}
+
+fn run(rt: &HostRuntime) -> Result<(), Failure> {
+    match read_request(rt)? {
+        Request::Help => {
+            println!(rt; "{USAGE}")?;
+            Ok(())
+        }
+        Request::Open(recording) => open_recording(rt, recording),
     }
 }
 

@@ -1,103 +1,75 @@
 // What is printed of each block, and of all of them.
+use crate::failure::Failure;
+use crate::files::write_unit;
+use crate::steps::{Correction, FoundUnit, find_unit, open_block};
 use crate::subchannel::SubchannelIndex;
-use block::{Header, UnitPlace, read_header};
-use gf::Refusal;
-use std::{fmt, io};
+use crate::tally::Tally;
+use block::{Opened, UnitPlace};
+use std::io;
 
-// What was found so far.
-#[derive(Clone, Copy, Default)]
-struct Tally {
-    blocks: u64,
-    opened: u64,
-    units: u64,
-    good: u64,
-}
-
-impl Tally {
-    // Counts a block, and answers its number.
-    fn count_block(&mut self) -> u64 {
-        let number = self.blocks;
-        self.blocks = number.saturating_add(1);
-        number
-    }
-
-    fn count_opened(&mut self) {
-        self.opened = self.opened.saturating_add(1);
-    }
-
-    fn count_unit(&mut self, good: bool) {
-        self.units = self.units.saturating_add(1);
-        if good {
-            self.good = self.good.saturating_add(1);
-        }
-    }
-}
-
-impl fmt::Display for Tally {
-    fn fmt<W: fmt::Write>(&self, f: &mut fmt::Formatter<W>) -> fmt::Result {
-        let Tally {
-            blocks,
-            opened,
-            units,
-            good,
-        } = self;
-        write!(
-            f,
-            "{blocks} blocks, {opened} opened, {units} units, {good} good"
-        )
-    }
-}
-
-// Prints what the blocks of a recording hold, one after the other.
+// Prints what the blocks of a recording hold, one after the other, and writes their good units to files where a folder is given.
 #[derive(Drop)]
 pub struct Report<'a> {
     rt: &'a HostRuntime,
     size: SubchannelIndex,
+    folder: Option<String>,
     tally: Tally,
 }
 
-// Where a unit stands, and whether its check is right. The header and its block are two values, as the library has them.
-fn open_unit(header: &Header, block: &[u8], n: usize) -> Result<(UnitPlace, bool), Refusal> {
-    Ok((header.unit(n)?, header.unit_is_good(block, n)?))
-}
-
 impl<'a> Report<'a> {
-    pub fn new(rt: &'a HostRuntime, size: SubchannelIndex) -> Report<'a> {
+    pub fn new(rt: &'a HostRuntime, size: SubchannelIndex, folder: Option<String>) -> Report<'a> {
         Report {
             rt,
             size,
+            folder,
             tally: Tally::default(),
         }
     }
 
-    fn print_unit(&mut self, header: &Header, block: &[u8], n: usize) -> io::Result<()> {
-        match open_unit(header, block, n) {
-            Ok((UnitPlace { place, length }, good)) => {
-                self.tally.count_unit(good);
-                let state = if good { "good" } else { "bad" };
-                println!(self.rt; "  unit {n}: place {place}, {length} bytes, {state}")
-            }
-            Err(refusal) => println!(self.rt; "  unit {n}: {refusal}"),
-        }
-    }
-
-    // Prints what the header says, and then each unit.
-    fn print_opened(&mut self, number: u64, header: &Header, block: &[u8]) -> io::Result<()> {
-        self.tally.count_opened();
-        let parameters = header.parameters;
-        let units = parameters.layout().units;
-        println!(self.rt; "block {number}: {parameters}, {units} units")?;
-        for n in 0..units {
-            self.print_unit(header, block, n)?;
+    fn print_unit(&mut self, number: u64, n: usize, unit: &FoundUnit<'_>) -> Result<(), Failure> {
+        let good = unit.good.is_some();
+        self.tally.count_unit(good);
+        let UnitPlace { place, length } = unit.stands;
+        let state = if good { "good" } else { "bad" };
+        println!(self.rt; "  unit {n}: place {place}, {length} bytes, {state}")?;
+        if let (Some(folder), Some(bytes)) = (&self.folder, unit.good) {
+            write_unit(self.rt, folder, number, n, bytes)?;
         }
         Ok(())
     }
 
-    pub fn print_block(&mut self, block: &[u8]) -> io::Result<()> {
+    // Prints what the header says, and then each unit.
+    fn print_opened(
+        &mut self,
+        number: u64,
+        correction: Correction,
+        opened: &Opened,
+        block: &[u8],
+    ) -> Result<(), Failure> {
+        self.tally.count_opened();
+        let parameters = opened.header().parameters;
+        let units = parameters.layout().units;
+        println!(self.rt; "block {number}: {correction}; {parameters}, {units} units")?;
+        for n in 0..units {
+            match find_unit(opened, block, n) {
+                Ok(unit) => self.print_unit(number, n, &unit)?,
+                Err(refusal) => println!(self.rt; "  unit {n}: {refusal}")?,
+            }
+        }
+        Ok(())
+    }
+
+    // Opens a block, whose rows are corrected in place.
+    pub fn print_block(&mut self, block: &mut [u8]) -> Result<(), Failure> {
         let number = self.tally.count_block();
-        match read_header(self.size.number(), block) {
-            Ok(header) => self.print_opened(number, &header, block),
-            Err(refusal) => println!(self.rt; "block {number}: {refusal}"),
+        let outcome = open_block(self.size.number(), block)?;
+        let correction = outcome.correction;
+        match outcome.opened {
+            Ok(opened) => self.print_opened(number, correction, &opened, block),
+            Err(refusal) => {
+                println!(self.rt; "block {number}: {correction}; {refusal}")?;
+                Ok(())
+            }
         }
     }
 

@@ -1,5 +1,6 @@
 // Worked examples of the fields, the check words and the header.
-use block::{Parameters, fire_word, read_header, unit_check};
+use crate::answer::{RepairText, as_error};
+use block::{Parameters, Received, Refused, fire_word, unit_check};
 use codes::remainder;
 use gf::{Field, Gf16, Gf256, Refusal};
 
@@ -50,14 +51,21 @@ fn print_parameters(rt: &HostRuntime, byte: u8) -> anyhow::Result<()> {
     Ok(())
 }
 
+// A block of zeros: its rows are codewords, and its Fire word is right, but the units have no room.
 fn print_zero_block(rt: &HostRuntime) -> anyhow::Result<()> {
-    let block = [0; 120];
+    let mut block = [0; 120];
     let fire = fire_word(&block[2..11]);
     println!(rt; "zero block: Fire word {fire:04X}")?;
     print_parameters(rt, block[2])?;
-    match read_header(1, &block) {
+    let received = Received::new(1).map_err(as_error)?;
+    let (repaired, repair) = received
+        .repair(&mut block)
+        .map_err(|refused| as_error(refused.refusal))?;
+    let repair = RepairText(repair);
+    println!(rt; "zero block: {repair}")?;
+    match repaired.open(&block) {
         Ok(_) => println!(rt; "zero block: opened")?,
-        Err(refusal) => println!(rt; "zero block: {refusal}")?,
+        Err(Refused { state: _, refusal }) => println!(rt; "zero block: {refusal}")?,
     }
     Ok(())
 }

@@ -1,0 +1,16 @@
+-- The rows of a super frame's block: as many as the size says, of 120 bytes each, of which the last ten are checks.
+use Rattle.std.specs.Prelude.{ℕ, List}
+use Rattle.interleaver.specs.declared.repair.Repair.{Repair}
+use Rattle.interleaver.specs.Rows.{BlockRepaired, ChecksFilled, AllCodewords}
+
+-- Each row is corrected, or left as it was.
+abbrev pub RowsRepaired : ℕ → List ℕ → List ℕ → Repair → Type 0
+RowsRepaired size before after repair = BlockRepaired size 120 10 before after repair
+
+-- The checks of each row are filled, and no other byte is written.
+abbrev pub RowsFilled : ℕ → List ℕ → List ℕ → Type 0
+RowsFilled size before after = ChecksFilled size 120 10 before after
+
+-- Every row is a codeword.
+abbrev pub RowsRight : ℕ → List ℕ → Type 0
+RowsRight size block = AllCodewords size 120 10 block

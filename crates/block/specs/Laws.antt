@@ -1,0 +1,63 @@
+-- What writing and reading a super frame do to each other.
+use Rattle.std.specs.Prelude.{◌≡◌, ℕ, ◌<◌, true, List, length, None, Ok}
+use Rattle.interleaver.specs.declared.repair.Repair.{Repair}
+use Rattle.interleaver.specs.Rows.{AreBytes}
+use Rattle.block.specs.declared.header.Header.{Header}
+use Rattle.block.specs.declared.settings.Settings.{Settings}
+use Rattle.block.specs.BlockRows.{RowsRepaired, RowsRight}
+use Rattle.block.specs.Layouts.{sendable}
+use Rattle.block.specs.Headers.{header, unit_count, check_fits}
+use Rattle.block.specs.SuperFrames.{superframe, Fill}
+use Rattle.block.specs.Places.{units_in}
+
+-- Legible: when each row is corrected, or left as it was, Fire word, parameters, alignment and starts are right, and the header says h.
+pub record Legible (size : ℕ) (block : List ℕ) (h : Header) : Type 0 where
+  pub repaired : List ℕ
+  pub repair : Repair
+  pub bytes : AreBytes repaired
+  pub rows : RowsRepaired size block repaired repair
+  pub right : header size repaired ≡ Ok h
+
+-- Clean: every row is corrected, and none is left.
+pub record Clean (size : ℕ) (block : List ℕ) : Type 0 where
+  pub repaired : List ℕ
+  pub repair : Repair
+  pub bytes : AreBytes repaired
+  pub rows : RowsRepaired size block repaired repair
+  pub none_left : repair.rows_left ≡ 0
+
+-- Flawless, or a written super frame: legible, every row is a codeword, and every unit's check is right.
+pub record Flawless (size : ℕ) (block : List ℕ) (h : Header) : Type 0 where
+  pub legible : Legible size block h
+  pub codewords : RowsRight size block
+  pub good : (n : ℕ) → n < unit_count h → check_fits h block n ≡ true
+
+-- the answer of a repair that changes nothing and leaves no row
+abbrev pub untouched : Repair
+untouched = record { changed = 0; rows_left = 0; lowest_left = None }
+
+-- A block reads as these settings and units: repair changes no byte and leaves no row, the header says the settings, and the units are
+-- those that the block holds, each with its check.
+pub record ReadsAs (s : Settings) (units : List (List ℕ)) (block : List ℕ) : Type 0 where
+  pub repaired : RowsRepaired s.size block block untouched
+  pub h : Header
+  pub opened : header s.size block ≡ Ok h
+  pub parameters : h.parameters ≡ s.parameters
+  pub count : unit_count h ≡ length units
+  pub held : units_in h.starts (unit_count h) block ≡ units
+  pub good : (n : ℕ) → n < unit_count h → check_fits h block n ≡ true
+
+-- Opening what was sealed gives the settings and the units.
+abbrev pub OpeningWhatWasSealed : Type 0
+OpeningWhatWasSealed = (s : Settings) (units : List (List ℕ)) → Fill s units → ReadsAs s units (superframe s units)
+
+-- The settings and units that a block holds make that block: the header can be said, the units fill the super frame, and every byte is the
+-- same.
+pub record MakesAgain (size : ℕ) (block : List ℕ) (h : Header) : Type 0 where
+  pub sendable : sendable h.parameters ≡ true
+  pub fill : (s : Settings) → s.size ≡ size → s.parameters ≡ h.parameters → Fill s (units_in h.starts (unit_count h) block)
+  pub same : (s : Settings) → s.size ≡ size → s.parameters ≡ h.parameters → superframe s (units_in h.starts (unit_count h) block) ≡ block
+
+-- Sealing what a flawless block held gives that block.
+abbrev pub SealingWhatWasHeld : Type 0
+SealingWhatWasHeld = (size : ℕ) (block : List ℕ) (h : Header) → AreBytes block → Flawless size block h → MakesAgain size block h

@@ -1,0 +1,38 @@
+-- What the steps of writing a super frame promise each other. No public contract speaks of these.
+use Rattle.std.specs.Prelude.{◌≡◌, ℕ, ◌+◌, ◌-◌, ◌*◌, ◌<◌, List, [], ◌∷◌, ◌++◌, length, take, drop, Some, None, Result, MatchResult, slice_index, slice_index_or}
+use Rattle.gf.specs.declared.refusal.Refusal.{Refusal}
+use Rattle.block.specs.declared.settings.Settings.{Settings}
+use Rattle.block.specs.declared.writer.OpenWriter.{OpenWriter}
+use Rattle.block.specs.Headers.{first_refusal}
+use Rattle.block.specs.SuperFrames.{layout_for, parameter_byte, packed, digits, checked_units}
+use Rattle.block.specs.Places.{units_in}
+use Rattle.block.specs.Writing.{making_complaints}
+
+-- all units are in, and the buffer has the length of a block
+pub record WholeAndSized (w : OpenWriter) (block : List ℕ) : Type 0 where
+  pub whole : w.added ≡ (layout_for w.settings).units
+  pub sized : length block ≡ 120 * w.settings.size
+
+-- the block with parameters and starts written
+abbrev pub with_header : OpenWriter → List ℕ → List ℕ
+with_header w block =
+    let l = layout_for w.settings in
+    take 2 block ++ (parameter_byte w.settings.parameters ∷ (packed (digits (take (l.units - 1) (drop 1 w.starts))) ++ drop l.header_length block))
+
+-- the block with the check behind each unit written
+abbrev pub with_unit_checks : OpenWriter → List ℕ → List ℕ
+with_unit_checks w block =
+    take (layout_for w.settings).header_length block
+    ++ (checked_units (units_in w.starts w.added block) ++ drop (110 * w.settings.size) block)
+
+-- the writer has these units' places
+pub record HasPlaces (w : OpenWriter) (units : List (List ℕ)) : Type 0 where
+  pub whole : w.added ≡ (layout_for w.settings).units
+  pub count : w.added ≡ length units
+  pub each : (n : ℕ) → n < w.added → slice_index w.starts (n + 1) ≡ slice_index w.starts n + length (slice_index_or units n []) + 2
+
+-- the writer that has the units' places; or the first refusal
+abbrev pub PlacesAll : Settings → List (List ℕ) → Result OpenWriter Refusal → Type 0
+PlacesAll s units answer =
+    MatchResult answer (λ w. (first_refusal (making_complaints s units) ≡ None) × (w.settings ≡ s) × HasPlaces w units)
+    (λ refusal. first_refusal (making_complaints s units) ≡ Some refusal)

@@ -1,0 +1,23 @@
+// The rows of a block: 120 bytes each, of which ten are checks, and as many rows as the subchannel index says.
+ghost use Rattle.block.specs.Stages.{RepairsRows, FillsRows};
+
+use gf::Refusal;
+use interleaver::{Repair, RowLayout};
+
+const ROW_SYMBOLS: usize = 120;
+
+const ROW_CHECKS: usize = 10;
+
+// Corrects the rows of a block of this size, or leaves them as they are.
+pub(crate) fn repair_rows(size: usize, block: &mut [u8]) -> Result<Repair, Refusal>
+    ensures { RepairsRows size block.old block.new result }
+{
+    RowLayout::new(size, ROW_SYMBOLS, ROW_CHECKS)?.repair(block)
+}
+
+// Writes the checks of the rows of a block of this size.
+pub(crate) fn fill_rows(size: usize, block: &mut [u8]) -> Result<(), Refusal>
+    ensures { FillsRows size block.old block.new result }
+{
+    RowLayout::new(size, ROW_SYMBOLS, ROW_CHECKS)?.fill_checks(block)
+}

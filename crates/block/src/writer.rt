@@ -1,0 +1,209 @@
+// Writing a super frame: units are added one behind another, then it is sealed, then its logical frames are handed out.
+ghost use Rattle.std.specs.Prelude.{◌≡◌, ◌+◌, ◌-◌, ◌*◌, ◌<◌, ◌≤◌, ◌++◌, ◌∷◌, ◌==◌, ◌≢◌, map, length, take, drop, slice_index, MatchResult, Ok, Err, Some, None};
+ghost use Rattle.block.specs.Checks.{fire_word};
+ghost use Rattle.block.specs.Headers.{first_refusal, of_buffer};
+ghost use Rattle.block.specs.Places.{Placed, units_in};
+ghost use Rattle.block.specs.SuperFrames.{checked_units, digits, layout_for, packed, parameter_byte, super_frame_data, superframe, two_bytes};
+
+use super::checks::{fire_word, unit_check};
+use super::packed_starts::pack;
+use super::parameters::Layout;
+use super::refused::Refused;
+use super::rows::fill_rows;
+use super::settings::Settings;
+use gf::Refusal;
+
+// A super frame that units are added to. Its bytes stay with the caller and are lent at each call, here and when it is sealed.
+#[derive(Drop, Debug)]
+pub struct OpenWriter {
+    settings: Settings,
+    // Where each unit so far starts, and behind them where the next one does, then zeros.
+    starts: [u16; 7],
+    // How many units are in.
+    added: usize,
+    ghost placed: { Placed settings starts added },
+}
+
+// A super frame whose block is whole.
+#[derive(Drop, Debug)]
+pub struct SealedWriter {
+    // The subchannel index.
+    size: usize,
+    ghost in_range: { (1 ≤ size) × (size ≤ 24) },
+}
+
+// Whether the buffer has the length of a block of this size.
+pub(crate) fn check_buffer(size: usize, block: &[u8]) -> Result<(), Refusal>
+    requires { size ≤ 24 }
+    ensures { MatchResult result (λ _. length block.now ≡ 120 * size) (λ refusal. (refusal ≡ Refusal.Buffer) × (length block.now ≢ 120 * size)) }
+{
+    if block.len() != 120 * size {
+        return Err(Refusal::Buffer);
+    }
+    Ok(())
+}
+
+impl OpenWriter {
+    ghost use Rattle.block.specs.Writing.{Begins, add_complaints, OneMore, Adds, Seals};
+    ghost use Rattle.block.specs.WritingSteps.{WholeAndSized, with_header, with_unit_checks, HasPlaces, PlacesAll};
+
+    // An open super frame with no units in it.
+    pub fn new(settings: Settings) -> OpenWriter
+        ensures { Begins settings result }
+    {
+        let layout = settings.parameters().layout();
+        let mut starts = [0; 7];
+        starts[0] = layout.header_length as u16;
+        OpenWriter {
+            settings,
+            starts,
+            added: 0,
+        }
+    }
+
+    fn layout(&self) -> Layout
+        ensures { result ≡ layout_for self.now.settings }
+    {
+        self.settings.parameters().layout()
+    }
+
+    // Makes room for a unit of so many bytes, and answers where it starts.
+    fn place(&mut self, length: usize) -> Result<usize, Refusal>
+        ensures { MatchResult result
+            (λ start. (first_refusal (add_complaints self.old length) ≡ None) × ((start ≡ slice_index self.old.starts self.old.added) × OneMore self.old length self.new))
+            (λ refusal. (first_refusal (add_complaints self.old length) ≡ Some refusal) × (self.new ≡ self.old)) }
+    {
+        let units = self.layout().units;
+        if self.added >= units {
+            return Err(Refusal::Overfull);
+        }
+        let following = units - self.added - 1;
+        let start = usize::from(self.starts[self.added]);
+        let room = 110 * self.settings.size() - start - 2 - 3 * following;
+        if !(1..=room).contains(&length) || following == 0 && length != room {
+            return Err(Refusal::UnitLength);
+        }
+        self.starts[self.added + 1] = (start + length + 2) as u16;
+        self.added += 1;
+        Ok(start)
+    }
+
+    // A writer in which the units have their places, if they fill the super frame.
+    pub(crate) fn with_room_for(settings: Settings, units: &[&[u8]]) -> Result<OpenWriter, Refusal>
+        ensures { PlacesAll settings (map (λ unit. unit.now) units.now) result }
+    {
+        let mut writer = OpenWriter::new(settings);
+        if units.len() > writer.layout().units {
+            return Err(Refusal::Overfull);
+        }
+        for unit in units {
+            writer.place(unit.len())?;
+        }
+        if writer.added < writer.layout().units {
+            return Err(Refusal::Unfinished);
+        }
+        Ok(writer)
+    }
+
+    // Copies the units to their places.
+    pub(crate) fn copy(&self, units: &[&[u8]], block: &mut [u8])
+        requires places { HasPlaces self.now (map (λ unit. unit.now) units.now) }
+        requires sized { length block.old ≡ 120 * self.now.settings.size }
+        ensures { units_in self.now.starts self.now.added block.new ≡ map (λ unit. unit.now) units.now }
+    {
+        for (n, unit) in units.iter().enumerate() {
+            let start = usize::from(self.starts[n]);
+            block[start..start + unit.len()].copy_from_slice(unit);
+        }
+    }
+
+    // Adds a unit: copies its bytes into the block, behind the units that are in.
+    pub fn add(&mut self, block: &mut [u8], unit: &[u8]) -> Result<(), Refusal>
+        ensures { Adds self.old self.new unit.now block.old block.new result }
+    {
+        check_buffer(self.settings.size(), block)?;
+        let start = self.place(unit.len())?;
+        block[start..start + unit.len()].copy_from_slice(unit);
+        Ok(())
+    }
+
+    // Writes the parameters, and the starts of all units but the first.
+    fn write_header(&self, block: &mut [u8])
+        requires { WholeAndSized self.now block.old }
+        ensures { block.new ≡ with_header self.now block.old }
+    {
+        let layout = self.layout();
+        block[2] = self.settings.parameter_byte();
+        pack(
+            &self.starts[1..layout.units],
+            &mut block[3..layout.header_length],
+        );
+    }
+
+    // Writes the check behind each unit.
+    fn write_unit_checks(&self, block: &mut [u8])
+        requires { WholeAndSized self.now block.old }
+        ensures { block.new ≡ with_unit_checks self.now block.old }
+    {
+        for n in 0..self.added {
+            let start = usize::from(self.starts[n]);
+            let end = usize::from(self.starts[n + 1]) - 2;
+            let check = unit_check(&block[start..end]);
+            block[end..end + 2].copy_from_slice(&check.to_be_bytes());
+        }
+    }
+
+    // Writes all but the units, if all are in.
+    pub(crate) fn seal_block(&self, block: &mut [u8]) -> Result<SealedWriter, Refusal>
+        ensures { Seals self.now block.old block.new result }
+    {
+        let size = self.settings.size();
+        check_buffer(size, block)?;
+        if self.added < self.layout().units {
+            return Err(Refusal::Unfinished);
+        }
+        self.write_header(block);
+        self.write_unit_checks(block);
+        write_fire_word(block);
+        fill_rows(size, block)?;
+        Ok(SealedWriter { size })
+    }
+
+    // Writes the header, the checks of the units and those of the rows, once all units are in.
+    pub fn seal(self, block: &mut [u8]) -> Result<SealedWriter, Refused<OpenWriter>>
+        ensures { MatchResult result (λ sealed. Seals self block.old block.new (Ok sealed)) (λ refused. Seals self block.old block.new (Err refused.refusal) × (refused.state ≡ self)) }
+    {
+        match self.seal_block(block) {
+            Ok(sealed) => Ok(sealed),
+            Err(refusal) => Err(Refused {
+                state: self,
+                refusal,
+            }),
+        }
+    }
+}
+
+// Writes the Fire word of the nine bytes behind it.
+fn write_fire_word(block: &mut [u8])
+    requires { 11 ≤ length block.old }
+    ensures { block.new ≡ two_bytes (fire_word (take 9 (drop 2 block.old))) ++ drop 2 block.old }
+{
+    let fire = fire_word(&block[2..11]);
+    block[..2].copy_from_slice(&fire.to_be_bytes());
+}
+
+impl SealedWriter {
+    ghost use Rattle.block.specs.Writing.{HandsOut};
+
+    // Logical frame `n`, 0 to 4.
+    pub fn frame<'b>(&self, block: &'b [u8], n: usize) -> Result<&'b [u8], Refusal>
+        ensures { MatchResult result (λ frame. HandsOut self.now block.now n (Ok frame.now)) (λ refusal. HandsOut self.now block.now n (Err refusal)) }
+    {
+        check_buffer(self.size, block)?;
+        if n >= 5 {
+            return Err(Refusal::Index);
+        }
+        let length = 24 * self.size;
+        Ok(&block[length * n..length * (n + 1)])
+    }
+}
