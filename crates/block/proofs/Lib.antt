@@ -1,4 +1,4 @@
--- The proofs about check words and headers.
+-- The proofs about check words, headers, the rows of a block, writing and reading.
 pub mod Dividing
 pub mod Packing
 pub mod Reading

@@ -10,7 +10,7 @@ use Rattle.block.specs.declared.settings.Settings.{Settings}
 use Rattle.block.specs.Bytes.{unsigned, word}
 use Rattle.block.specs.Checks.{fire_word, unit_check}
 use Rattle.block.specs.Layouts.{layout, parameters, right}
-use Rattle.block.specs.Headers.{start, starts, crowded, fire_fits, fills, written, check_fits}
+use Rattle.block.specs.Headers.{start, starts, crowded, fire_fits, fills, written, header, check_fits}
 use Rattle.block.specs.SuperFrames.{two_bytes, checked_units, unit_starts, digits, packed, parameter_byte, layout_for, behind_fire, super_frame_data, all_row_checks, superframe, Fill}
 use Rattle.block.specs.Places.{unit_in, units_in}
 use Rattle.block.specs.Laws.{untouched, ReadsAs, OpeningWhatWasSealed}
@@ -175,16 +175,21 @@ module _ (s : Settings) (units : List (List ℕ)) (f : Fill s units) where
         there = omega (arith, get_or-places (n + 1) (omega arith), place-more n h)
 
     -- the block is read
-    reads_as : parameters p ≡ s.parameters → right p ≡ true → BlockRepaired s.size 120 10 block block untouched → length block ≡ 120 * s.size
-        → fire_fits block ≡ true → ReadsAs s units block
-    reads_as e ok repaired long fire = record {
+    reads_as : parameters p ≡ s.parameters → right p ≡ true → BlockRepaired s.size 120 10 block block untouched → AllCodewords s.size 120 10 block
+        → length block ≡ 120 * s.size → fire_fits block ≡ true → ReadsAs s units block
+    reads_as e ok repaired codewords long fire = record {
       repaired = repaired;
       h = said;
-      opened = header-right s.size block conditions ∙ ap Ok written-block;
+      opened = opened;
       parameters = refl;
       count = sym f.count;
       held = units_in-places;
       good = good;
+      flawless = λ bytes. record {
+        legible = record { repaired = block; repair = untouched; bytes = bytes; rows = repaired; right = opened };
+        codewords = codewords;
+        good = good;
+      };
     }
       where
         said : Header
@@ -202,6 +207,9 @@ module _ (s : Settings) (units : List (List ℕ)) (f : Fill s units) where
           filled = subst (λ q. fills (layout q.dac q.sbr) packs ≡ true) (sym e) filled;
           apart = subst (λ q. crowded (starts (layout q.dac q.sbr) s.size packs) 1 (layout q.dac q.sbr).units ≡ None) (sym e) uncrowded;
         }
+
+        opened : header s.size block ≡ Ok said
+        opened = header-right s.size block conditions ∙ ap Ok written-block
 
         good : (n : ℕ) → n < l.units → check_fits said block n ≡ true
         good n h = eq-eqb _ _ (ap unit_check (unit_in-places n h) ∙ sym (word-places n h))
@@ -252,8 +260,10 @@ module _ (s : Settings) (units : List (List ℕ)) (f : Fill s units) where
   reads =
       subst (ReadsAs s units) (sym superframe-whole)
       (reads_as (fire / 256) (fire % 256) p checks (parameters-parameter_byte s.parameters s.right) (right-parameter_byte s.parameters s.right)
-      (repaired-untouched s.size 120 10 whole refl
-      (subst (AllCodewords s.size 120 10) data-whole (all_codewords s.size frame length-super_frame_data))) length-whole fire_fits-whole)
+      (repaired-untouched s.size 120 10 whole refl codewords) codewords length-whole fire_fits-whole)
+    where
+      codewords : AllCodewords s.size 120 10 whole
+      codewords = subst (AllCodewords s.size 120 10) data-whole (all_codewords s.size frame length-super_frame_data)
 
 pub opening_what_was_sealed : OpeningWhatWasSealed
 opening_what_was_sealed = reads

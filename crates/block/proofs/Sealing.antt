@@ -1,7 +1,8 @@
 -- Sealing a super frame: what the four writes of a whole writer make of a buffer.
-use Rattle.std.proofs.Common.{◌≡◌, ℕ, ◌+◌, ◌-◌, ◌*◌, ◌/◌, ◌<◌, ◌≤◌, Bool, true, false, List, [], ◌∷◌, ◌++◌, length, get_or, take, drop, sym, refl, ap, ◌∙◌, ap₂, append_assoc, ⊎_elim, arith, length-append, length-take-le, length-drop, take_at, drop_at, drop-drop}
+use Rattle.std.proofs.Common.{◌≡◌, ℕ, ◌+◌, ◌-◌, ◌*◌, ◌/◌, ◌<◌, ◌≤◌, Bool, true, false, List, [], ◌∷◌, ◌++◌, length, get_or, take, drop, sym, refl, ap, ◌∙◌, ap₂, append_assoc, ⊎_elim, subst, arith, length-append, length-take-le, length-drop, take_at, drop_at, drop-drop}
 use Rattle.std.proofs.lemmas.Bool.{cases_lt}
 use Rattle.std.proofs.lemmas.List.{get_or_past, get_or-take, take-append-le, drop-take}
+use Rattle.std.proofs.lemmas.List.Elements.{All-from_get_or}
 use Rattle.std.proofs.lemmas.List.FromFn.{length-map-range_with_len, get_or-map-range_with_len, fill_by_all}
 use Rattle.interleaver.specs.Rows.{ChecksFilled, AreBytes}
 use Rattle.block.specs.declared.parameters.DacRate.{DacRate}
@@ -11,13 +12,13 @@ use Rattle.block.specs.declared.writer.OpenWriter.{OpenWriter}
 use Rattle.block.specs.Checks.{fire_word}
 use Rattle.block.specs.Layouts.{layout}
 use Rattle.block.specs.Stages.{Fits}
-use Rattle.block.specs.SuperFrames.{parameter_byte, two_bytes, checked_units, unit_starts, digits, packed, layout_for, behind_fire, super_frame_data, all_row_checks, superframe}
+use Rattle.block.specs.SuperFrames.{parameter_byte, two_bytes, checked_units, unit_starts, digits, packed, layout_for, behind_fire, super_frame_data, all_row_checks, superframe, Fill}
 use Rattle.block.specs.Places.{unit_in, units_in}
 use Rattle.block.specs.WritingSteps.{WholeAndSized, with_header, with_unit_checks}
 use Rattle.block.proofs.Starts.{layout_fits}
 use Rattle.block.proofs.Placing.{start-le_end, header-le_start}
 use Rattle.block.proofs.PackedStarts.{length-packed}
-use Rattle.block.proofs.UnitStarts.{length-unit_starts, unit_starts-found}
+use Rattle.block.proofs.UnitStarts.{length-unit_starts, length-unit_of, unit_starts-found}
 use Rattle.block.proofs.UnitChecks.{length-checked_units_in}
 use Rattle.block.proofs.RowChecks.{filled_is}
 
@@ -122,6 +123,18 @@ module _ (w : OpenWriter) (b : List ℕ) (k : WholeAndSized w b) where
         w.placed.first,
         w.placed.full k.whole,
       )
+
+  -- the units fill the super frame
+  pub fill : Fill w.settings us
+  fill = record {
+    count = count;
+    some =
+        All-from_get_or (λ unit. 1 ≤ length unit) us []
+        (λ n h. let l : n < w.added = omega (arith, length-map-range_with_len (unit_in w.starts b) 0 w.added) in
+        subst (λ unit. 1 ≤ length unit) (sym (get_or-map-range_with_len (unit_in w.starts b) 0 w.added n n [] l (omega arith)))
+        (omega (arith, length-unit_of b w.starts w.added w.placed.apart within n l, w.placed.apart n l)));
+    full = length-units_in;
+  }
 
   length-data : length (super_frame_data w.settings us) ≡ end
   length-data = length-super_frame_data w.settings us count ∙ length-units_in

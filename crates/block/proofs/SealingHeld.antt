@@ -1,9 +1,12 @@
 -- Sealing what a flawless block held: its settings and units make the same block.
-use Rattle.std.proofs.Common.{◌≡◌, ℕ, suc, ◌+◌, ◌-◌, ◌*◌, ◌/◌, ◌%◌, ◌<◌, ◌≤◌, Bool, true, false, not, ◌||◌, eqb, List, [], ◌∷◌, ◌++◌, map, length, get_or, take, drop, All, Ok, sym, refl, ap, ◌∙◌, subst, ap₂, zero-add, arith, length-take-le, length-drop, eqb-true, eq-eqb}
+use Rattle.std.proofs.Common.{◌≡◌, ℕ, suc, ◌+◌, ◌-◌, ◌*◌, ◌/◌, ◌%◌, ◌<◌, ◌≤◌, Bool, true, false, cond, not, ◌||◌, eqb, List, [], ◌∷◌, ◌++◌, map, length, get_or, take, drop, All, Some, None, Ok, sym, refl, ap, ◌∙◌, subst, ap₂, zero-add, arith, length-take-le, length-drop, eqb-true, eq-eqb, leb, le-leb}
+use Rattle.std.proofs.lemmas.Bool.{and_from}
 use Rattle.std.proofs.lemmas.List.{take-take, drop_more, get_or-drop}
 use Rattle.std.proofs.lemmas.List.Elements.{All-from_get_or}
 use Rattle.std.proofs.lemmas.List.FromFn.{length-map-range_with_len, get_or-map-range_with_len, fill_by_all}
 use Rattle.std.specs.List.{range_with_len}
+use Rattle.gf.specs.declared.refusal.Refusal.TheVariants.{Size}
+use Rattle.gf.specs.declared.refusal.Refusal.TheVariants as refusals
 use Rattle.gf.specs.FieldLaws.{laws256}
 use Rattle.codes.proofs.TakenOff.{distance-same}
 use Rattle.interleaver.specs.Rows.{row_of, elements, AreBytes, AllCodewords, wrong}
@@ -15,8 +18,8 @@ use Rattle.block.specs.declared.settings.Settings.{Settings}
 use Rattle.block.specs.Bytes.{unsigned, word}
 use Rattle.block.specs.Checks.{fire_word, unit_check}
 use Rattle.block.specs.Layouts.{layout, parameters}
-use Rattle.block.specs.Headers.{starts, layout_of, written, header, unit_count, check_fits, Tiles}
-use Rattle.block.specs.SuperFrames.{two_bytes, checked_units, unit_starts, digits, packed, parameter_byte, all_row_checks, superframe, Fill}
+use Rattle.block.specs.Headers.{first_refusal, starts, layout_of, written, header, unit_count, check_fits, Tiles}
+use Rattle.block.specs.SuperFrames.{settings_complaints, two_bytes, checked_units, unit_starts, digits, packed, parameter_byte, all_row_checks, superframe, Fill}
 use Rattle.block.specs.Places.{unit_in, units_in}
 use Rattle.block.specs.Laws.{Flawless, MakesAgain, SealingWhatWasHeld}
 use Rattle.block.specs.Stages.{Fits}
@@ -26,6 +29,7 @@ use Rattle.block.proofs.ParameterBytes.{parameter_byte-parameters, sendable-para
 use Rattle.block.proofs.RowChecks.{codewords_are}
 use Rattle.block.proofs.Starts.{layout_fits, start_at}
 use Rattle.block.proofs.Tiling.{tiled_answer}
+use Rattle.block.proofs.UnitsFit.{first_refusal-making_complaints}
 use Rattle.block.proofs.UnitStarts.{two_bytes-word, glued, length-unit_of, unit_starts-found, checked_units-found}
 
 module _ (size : ℕ) (block : List ℕ) (bytes : AreBytes block) (right : Right size block) (codewords : AllCodewords size 120 10 block)
@@ -174,10 +178,15 @@ module _ (size : ℕ) (block : List ℕ) (bytes : AreBytes block) (right : Right
       ap₂ (λ (k : ℕ) bs. bs ++ all_row_checks k bs) e (ap frame q ∙ frame-said)
       ∙ sym (codewords_are size block right.in_range.0 right.long bytes codewords)
 
+  accepted : first_refusal (settings_complaints size said) ≡ None
+  accepted =
+      ap₂ (λ a b. cond (not a) (Some Size) (cond (not b) (Some refusals.Settings) None))
+      (and_from (leb 1 size) (leb size 24) (le-leb 1 size right.in_range.0) (le-leb size 24 right.in_range.1)) (sendable-parameters byte right.parameters)
+
   makes_again : MakesAgain size block (written size block)
   makes_again = record {
-    sendable = sendable-parameters byte right.parameters;
-    fill = fills_a_frame;
+    accepted = accepted;
+    made = λ s e q. first_refusal-making_complaints s units (fills_a_frame s e q);
     same = superframe-units;
   }
 

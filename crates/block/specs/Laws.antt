@@ -1,14 +1,14 @@
 -- What writing and reading a super frame do to each other.
-use Rattle.std.specs.Prelude.{◌≡◌, ℕ, ◌<◌, true, List, length, None, Ok}
+use Rattle.std.specs.Prelude.{◌≡◌, ℕ, ◌*◌, ◌<◌, true, List, length, None, Ok}
 use Rattle.interleaver.specs.declared.repair.Repair.{Repair}
 use Rattle.interleaver.specs.Rows.{AreBytes}
 use Rattle.block.specs.declared.header.Header.{Header}
 use Rattle.block.specs.declared.settings.Settings.{Settings}
 use Rattle.block.specs.BlockRows.{RowsRepaired, RowsRight}
-use Rattle.block.specs.Layouts.{sendable}
-use Rattle.block.specs.Headers.{header, unit_count, check_fits}
-use Rattle.block.specs.SuperFrames.{superframe, Fill}
+use Rattle.block.specs.Headers.{first_refusal, header, unit_count, check_fits}
+use Rattle.block.specs.SuperFrames.{settings_complaints, superframe, Fill}
 use Rattle.block.specs.Places.{units_in}
+use Rattle.block.specs.Writing.{making_complaints}
 
 -- Legible: when each row is corrected, or left as it was, Fire word, parameters, alignment and starts are right, and the header says h.
 pub record Legible (size : ℕ) (block : List ℕ) (h : Header) : Type 0 where
@@ -20,6 +20,7 @@ pub record Legible (size : ℕ) (block : List ℕ) (h : Header) : Type 0 where
 
 -- Clean: every row is corrected, and none is left.
 pub record Clean (size : ℕ) (block : List ℕ) : Type 0 where
+  pub long : length block ≡ 120 * size
   pub repaired : List ℕ
   pub repair : Repair
   pub bytes : AreBytes repaired
@@ -36,8 +37,8 @@ pub record Flawless (size : ℕ) (block : List ℕ) (h : Header) : Type 0 where
 abbrev pub untouched : Repair
 untouched = record { changed = 0; rows_left = 0; lowest_left = None }
 
--- A block reads as these settings and units: repair changes no byte and leaves no row, the header says the settings, and the units are
--- those that the block holds, each with its check.
+-- A block reads as these settings and units: repair changes no byte and leaves no row, and a block is repaired in one way; the header says
+-- the settings; and the units are those that the block holds, each with its check. So the block is flawless.
 pub record ReadsAs (s : Settings) (units : List (List ℕ)) (block : List ℕ) : Type 0 where
   pub repaired : RowsRepaired s.size block block untouched
   pub h : Header
@@ -46,16 +47,18 @@ pub record ReadsAs (s : Settings) (units : List (List ℕ)) (block : List ℕ) :
   pub count : unit_count h ≡ length units
   pub held : units_in h.starts (unit_count h) block ≡ units
   pub good : (n : ℕ) → n < unit_count h → check_fits h block n ≡ true
+  pub flawless : AreBytes block → Flawless s.size block h
 
 -- Opening what was sealed gives the settings and the units.
 abbrev pub OpeningWhatWasSealed : Type 0
 OpeningWhatWasSealed = (s : Settings) (units : List (List ℕ)) → Fill s units → ReadsAs s units (superframe s units)
 
--- The settings and units that a block holds make that block: the header can be said, the units fill the super frame, and every byte is the
--- same.
+-- The size, the parameters and the units that a block holds make that block: neither building settings nor sealing is refused, and every
+-- byte is the same.
 pub record MakesAgain (size : ℕ) (block : List ℕ) (h : Header) : Type 0 where
-  pub sendable : sendable h.parameters ≡ true
-  pub fill : (s : Settings) → s.size ≡ size → s.parameters ≡ h.parameters → Fill s (units_in h.starts (unit_count h) block)
+  pub accepted : first_refusal (settings_complaints size h.parameters) ≡ None
+  pub made : (s : Settings) → s.size ≡ size → s.parameters ≡ h.parameters
+      → first_refusal (making_complaints s (units_in h.starts (unit_count h) block)) ≡ None
   pub same : (s : Settings) → s.size ≡ size → s.parameters ≡ h.parameters → superframe s (units_in h.starts (unit_count h) block) ≡ block
 
 -- Sealing what a flawless block held gives that block.

@@ -1,4 +1,5 @@
--- What the promises of this crate are made in: bits of bytes, check words, and the header of a super frame.
+-- What the promises of this crate are made in: bits and check words, headers, rows, super frames, what writing and reading answer, and how
+-- they undo each other.
 pub mod Bytes
 pub mod BlockRows
 pub mod Checks

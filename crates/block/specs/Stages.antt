@@ -1,4 +1,4 @@
--- What the steps of reading a header answer, one by one. The promises of the public calls are in Headers.antt, and equal to these.
+-- What the steps of reading a block answer, one by one. The promises of the public calls are in Headers.antt and States.antt.
 use Rattle.std.specs.Prelude.{◌≡◌, ℕ, ◌+◌, ◌-◌, ◌*◌, ◌≤◌, true, cond, List, [], drop, Some, None, Ok, Err, Option, Result, MatchResult, slice_index}
 use Rattle.gf.specs.declared.refusal.Refusal.{Refusal}
 use Rattle.block.specs.declared.fault.HeaderFault.{HeaderFault}
@@ -7,7 +7,7 @@ use Rattle.block.specs.declared.parameters.Parameters.{Parameters}
 use Rattle.block.specs.declared.parameters.Layout.{Layout}
 use Rattle.block.specs.declared.header.Header.{Header}
 use Rattle.interleaver.specs.declared.repair.Repair.{Repair}
-use Rattle.block.specs.BlockRows.{RowsRepaired, RowsFilled}
+use Rattle.block.specs.BlockRows.{RowsRepaired}
 use Rattle.block.specs.Layouts.{layout, read}
 use Rattle.block.specs.Headers.{starts, crowded, fire_fits, fills, unless, first_refusal, of_block}
 
@@ -48,10 +48,4 @@ blocked size block = unless (of_block size block []) tt
 abbrev pub RepairsRows : ℕ → List ℕ → List ℕ → Result Repair Refusal → Type 0
 RepairsRows size before after answer =
     MatchResult answer (λ repair. (first_refusal (of_block size before []) ≡ None) × RowsRepaired size before after repair)
-    (λ refusal. (first_refusal (of_block size before []) ≡ Some refusal) × (after ≡ before))
-
--- the checks of the rows are filled; or the first refusal is answered, and the buffer is as it was
-abbrev pub FillsRows : ℕ → List ℕ → List ℕ → Result Unit Refusal → Type 0
-FillsRows size before after answer =
-    MatchResult answer (λ _. (first_refusal (of_block size before []) ≡ None) × RowsFilled size before after)
     (λ refusal. (first_refusal (of_block size before []) ≡ Some refusal) × (after ≡ before))

@@ -38,12 +38,17 @@ Adds w after unit before block answer =
     × (block ≡ take start before ++ (unit ++ drop (start + length unit) before)))
     (λ refusal. (first_refusal complaints ≡ Some refusal) × (after ≡ w) × (block ≡ before))
 
--- The buffer becomes the super frame of the units that it holds; or the first refusal is answered, and nothing is changed.
+-- the refusals of sealing, each with its condition: the buffer has another length; or units are missing
+abbrev pub sealing_complaints : OpenWriter → List ℕ → List (Bool × Refusal)
+sealing_complaints w block =
+    of_buffer w.settings.size block ((not (w.added == (layout_for w.settings).units), Unfinished) ∷ [])
+
+-- The buffer becomes the super frame of the units that it holds, which fill it; or the first refusal is answered, and nothing is changed.
 abbrev pub Seals : OpenWriter → List ℕ → List ℕ → Result SealedWriter Refusal → Type 0
 Seals w before block answer =
-    let complaints = of_buffer w.settings.size before ((not (w.added == (layout_for w.settings).units), Unfinished) ∷ []) in
+    let complaints = sealing_complaints w before in
     MatchResult answer
-    (λ s. (first_refusal complaints ≡ None) × (s.size ≡ w.settings.size)
+    (λ s. (first_refusal complaints ≡ None) × (s.size ≡ w.settings.size) × Fill w.settings (units_in w.starts w.added before)
     × (block ≡ superframe w.settings (units_in w.starts w.added before)))
     (λ refusal. (first_refusal complaints ≡ Some refusal) × (block ≡ before))
 

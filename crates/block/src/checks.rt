@@ -88,7 +88,7 @@ impl CyclicCheck {
 
 // The number that the bits write, the top bit first.
 #[tactic(auto, using(crate::proofs::Packing::word_fits, crate::proofs::Packing::symbol_more))]
-fn packed(symbols: &[Gf2; 16]) -> u16
+fn word_of(symbols: &[Gf2; 16]) -> u16
     ensures { result ≡ binary 0 (meanings symbols.now) }
 {
     let mut word = 0;
@@ -102,12 +102,12 @@ fn packed(symbols: &[Gf2; 16]) -> u16
 pub fn fire_word(bytes: &[u8]) -> u16
     ensures { result ≡ fire_word bytes.now }
 {
-    packed(&FIRE.remainder(bytes))
+    word_of(&FIRE.remainder(bytes))
 }
 
 // The check that belongs to a unit: the complement of the remainder, which starts with sixteen ones.
 pub fn unit_check(unit: &[u8]) -> u16
     ensures { result ≡ unit_check unit.now }
 {
-    !packed(&UNIT.remainder(unit))
+    !word_of(&UNIT.remainder(unit))
 }

@@ -1,4 +1,4 @@
-// The block of a super frame: its check words and its header.
+// Super frames: check words, parameters and header; settings and the writer; the reader in three states.
 #![tactic(auto)]
 
 mod checks;

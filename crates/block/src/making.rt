@@ -1,11 +1,12 @@
 // Making a super frame of settings and units in one call.
-ghost use Rattle.std.specs.Prelude.{map};
+ghost use Rattle.std.specs.Prelude.{map, IfOk};
 ghost use Rattle.block.specs.Writing.{Makes};
-ghost use Rattle.block.specs.Laws.{SealingWhatWasHeld};
+ghost use Rattle.block.specs.Laws.{ReadsAs, SealingWhatWasHeld};
 ghost use Rattle.block.specs.Examples.{ExamplesHold};
 
 use super::settings::Settings;
-use super::writer::{OpenWriter, SealedWriter, check_buffer};
+use super::sized_block::check_buffer;
+use super::writer::{OpenWriter, SealedWriter};
 use gf::Refusal;
 
 // Writes the whole block of the super frame that settings and units make.
@@ -15,11 +16,12 @@ pub fn make_super_frame(
     block: &mut [u8],
 ) -> Result<SealedWriter, Refusal>
     ensures makes { Makes settings (map (λ unit. unit.now) units.now) block.old block.new result }
+    ensures reads { IfOk result (λ _. ReadsAs settings (map (λ unit. unit.now) units.now) block.new) }
     ensures again { SealingWhatWasHeld }
     ensures examples { ExamplesHold }
 {
     check_buffer(settings.size(), block)?;
-    let writer = OpenWriter::with_room_for(settings, units)?;
-    writer.copy(units, block);
-    writer.seal_block(block)
+    let writer = OpenWriter::with_places_for(settings, units)?;
+    writer.copy_units(units, block);
+    Ok(writer.write_all(block))
 }

@@ -6,6 +6,7 @@ ghost use Rattle.block.specs.Stages.{Fits};
 ghost use Rattle.block.specs.SuperFrames.{digits, packed};
 
 use super::parameters::Layout;
+use super::sized_block::SUPER_FRAME_BYTES;
 use std::array;
 
 // The packed number `n`, counted from 0: two of them share three bytes.
@@ -29,7 +30,7 @@ pub(crate) fn starts(layout: &Layout, size: usize, packed: &[u8]) -> [u16; 7]
     array::from_fn(|n| match n {
         0 => layout.header_length as u16,
         n if n < layout.units => packed_start(packed, n - 1),
-        n if n == layout.units => (110 * size) as u16,
+        n if n == layout.units => (SUPER_FRAME_BYTES * size) as u16,
         _ => 0,
     })
 }

@@ -6,7 +6,7 @@ use super::checks::unit_check;
 use super::header::{Header, UnitPlace, read_header};
 use super::refused::Refused;
 use super::rows::repair_rows;
-use super::sized_block::SizedBlock;
+use super::sized_block::check_buffer;
 use gf::Refusal;
 use interleaver::Repair;
 
@@ -103,9 +103,9 @@ impl Opened {
         ensures { FindsUnit self.now block.now n result }
     {
         let Opened { header } = self;
-        let bytes = SizedBlock::new(header.size, block)?.bytes;
+        check_buffer(header.size, block)?;
         let UnitPlace { place, length } = header.unit(n)?;
-        let (unit, check) = bytes[place..place + length + 2].split_at(length);
+        let (unit, check) = block[place..place + length + 2].split_at(length);
         if unit_check(unit) != u16::from_be_bytes([check[0], check[1]]) {
             return Err(Refusal::UnitCheck { unit: n as u8 });
         }

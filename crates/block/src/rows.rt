@@ -1,5 +1,7 @@
 // The rows of a block: 120 bytes each, of which ten are checks, and as many rows as the subchannel index says.
-ghost use Rattle.block.specs.Stages.{RepairsRows, FillsRows};
+ghost use Rattle.std.specs.Prelude.{◌≡◌, ◌*◌, ◌≤◌, length};
+ghost use Rattle.block.specs.BlockRows.{RowsFilled};
+ghost use Rattle.block.specs.Stages.{RepairsRows};
 
 use gf::Refusal;
 use interleaver::{Repair, RowLayout};
@@ -16,8 +18,13 @@ pub(crate) fn repair_rows(size: usize, block: &mut [u8]) -> Result<Repair, Refus
 }
 
 // Writes the checks of the rows of a block of this size.
-pub(crate) fn fill_rows(size: usize, block: &mut [u8]) -> Result<(), Refusal>
-    ensures { FillsRows size block.old block.new result }
+pub(crate) fn fill_rows(size: usize, block: &mut [u8])
+    requires { (1 ≤ size) × ((size ≤ 24) × (length block.old ≡ 120 * size)) }
+    ensures { RowsFilled size block.old block.new }
 {
-    RowLayout::new(size, ROW_SYMBOLS, ROW_CHECKS)?.fill_checks(block)
+    let Ok(rows) = RowLayout::new(size, ROW_SYMBOLS, ROW_CHECKS) else {
+        unreachable!()
+    };
+    // The buffer has the length that it asks for.
+    let _ = rows.fill_checks(block);
 }

@@ -1,5 +1,5 @@
 // A block whose size and length are right, and its header.
-ghost use Rattle.std.specs.Prelude.{◌≡◌, ◌*◌, ◌≤◌, ◌==◌, length, take, drop, IfOk, MatchResult, Ok};
+ghost use Rattle.std.specs.Prelude.{◌≡◌, ◌*◌, ◌≤◌, ◌==◌, ◌≢◌, length, take, drop, IfOk, MatchResult, Ok};
 ghost use Rattle.block.specs.Checks.{fire_word};
 ghost use Rattle.block.specs.Layouts.{layout};
 ghost use Rattle.block.specs.Stages.{laid, opened, blocked};
@@ -10,6 +10,27 @@ use super::header::Header;
 use super::packed_starts::{first_crowded, is_filled, starts};
 use super::parameters::Parameters;
 use gf::Refusal;
+
+// Bytes of a block, of a super frame and of a logical frame, for each step of the subchannel index.
+pub(crate) const BLOCK_BYTES: usize = 120;
+
+pub(crate) const SUPER_FRAME_BYTES: usize = 110;
+
+pub(crate) const FRAME_BYTES: usize = 24;
+
+// Logical frames in a block.
+pub(crate) const FRAMES: usize = 5;
+
+// Whether the buffer has the length of a block of this size.
+pub(crate) fn check_buffer(size: usize, block: &[u8]) -> Result<(), Refusal>
+    requires { size ≤ 24 }
+    ensures { MatchResult result (λ _. length block.now ≡ 120 * size) (λ refusal. (refusal ≡ Refusal.Buffer) × (length block.now ≢ 120 * size)) }
+{
+    if block.len() != BLOCK_BYTES * size {
+        return Err(Refusal::Buffer);
+    }
+    Ok(())
+}
 
 #[derive(Clone, Copy)]
 pub(crate) struct SizedBlock<'a> {
@@ -28,9 +49,7 @@ impl<'a> SizedBlock<'a> {
         if !(1..=24).contains(&size) {
             return Err(Refusal::Size);
         }
-        if bytes.len() != 120 * size {
-            return Err(Refusal::Buffer);
-        }
+        check_buffer(size, bytes)?;
         Ok(SizedBlock { size, bytes })
     }
 

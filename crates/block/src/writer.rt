@@ -11,6 +11,7 @@ use super::parameters::Layout;
 use super::refused::Refused;
 use super::rows::fill_rows;
 use super::settings::Settings;
+use super::sized_block::{FRAME_BYTES, FRAMES, SUPER_FRAME_BYTES, check_buffer};
 use gf::Refusal;
 
 // A super frame that units are added to. Its bytes stay with the caller and are lent at each call, here and when it is sealed.
@@ -32,19 +33,8 @@ pub struct SealedWriter {
     ghost in_range: { (1 ≤ size) × (size ≤ 24) },
 }
 
-// Whether the buffer has the length of a block of this size.
-pub(crate) fn check_buffer(size: usize, block: &[u8]) -> Result<(), Refusal>
-    requires { size ≤ 24 }
-    ensures { MatchResult result (λ _. length block.now ≡ 120 * size) (λ refusal. (refusal ≡ Refusal.Buffer) × (length block.now ≢ 120 * size)) }
-{
-    if block.len() != 120 * size {
-        return Err(Refusal::Buffer);
-    }
-    Ok(())
-}
-
 impl OpenWriter {
-    ghost use Rattle.block.specs.Writing.{Begins, add_complaints, OneMore, Adds, Seals};
+    ghost use Rattle.block.specs.Writing.{Begins, add_complaints, OneMore, Adds, sealing_complaints, Seals};
     ghost use Rattle.block.specs.WritingSteps.{WholeAndSized, with_header, with_unit_checks, HasPlaces, PlacesAll};
 
     // An open super frame with no units in it.
@@ -68,7 +58,7 @@ impl OpenWriter {
     }
 
     // Makes room for a unit of so many bytes, and answers where it starts.
-    fn place(&mut self, length: usize) -> Result<usize, Refusal>
+    fn reserve(&mut self, length: usize) -> Result<usize, Refusal>
         ensures { MatchResult result
             (λ start. (first_refusal (add_complaints self.old length) ≡ None) × ((start ≡ slice_index self.old.starts self.old.added) × OneMore self.old length self.new))
             (λ refusal. (first_refusal (add_complaints self.old length) ≡ Some refusal) × (self.new ≡ self.old)) }
@@ -79,7 +69,7 @@ impl OpenWriter {
         }
         let following = units - self.added - 1;
         let start = usize::from(self.starts[self.added]);
-        let room = 110 * self.settings.size() - start - 2 - 3 * following;
+        let room = SUPER_FRAME_BYTES * self.settings.size() - start - 2 - 3 * following;
         if !(1..=room).contains(&length) || following == 0 && length != room {
             return Err(Refusal::UnitLength);
         }
@@ -89,15 +79,19 @@ impl OpenWriter {
     }
 
     // A writer in which the units have their places, if they fill the super frame.
-    pub(crate) fn with_room_for(settings: Settings, units: &[&[u8]]) -> Result<OpenWriter, Refusal>
+    pub(crate) fn with_places_for(
+        settings: Settings,
+        units: &[&[u8]],
+    ) -> Result<OpenWriter, Refusal>
         ensures { PlacesAll settings (map (λ unit. unit.now) units.now) result }
     {
         let mut writer = OpenWriter::new(settings);
+        // Before the units are looked at one by one, since this refusal comes before that of a length.
         if units.len() > writer.layout().units {
             return Err(Refusal::Overfull);
         }
         for unit in units {
-            writer.place(unit.len())?;
+            writer.reserve(unit.len())?;
         }
         if writer.added < writer.layout().units {
             return Err(Refusal::Unfinished);
@@ -106,7 +100,7 @@ impl OpenWriter {
     }
 
     // Copies the units to their places.
-    pub(crate) fn copy(&self, units: &[&[u8]], block: &mut [u8])
+    pub(crate) fn copy_units(&self, units: &[&[u8]], block: &mut [u8])
         requires places { HasPlaces self.now (map (λ unit. unit.now) units.now) }
         requires sized { length block.old ≡ 120 * self.now.settings.size }
         ensures { units_in self.now.starts self.now.added block.new ≡ map (λ unit. unit.now) units.now }
@@ -122,7 +116,7 @@ impl OpenWriter {
         ensures { Adds self.old self.new unit.now block.old block.new result }
     {
         check_buffer(self.settings.size(), block)?;
-        let start = self.place(unit.len())?;
+        let start = self.reserve(unit.len())?;
         block[start..start + unit.len()].copy_from_slice(unit);
         Ok(())
     }
@@ -153,33 +147,44 @@ impl OpenWriter {
         }
     }
 
-    // Writes all but the units, if all are in.
-    pub(crate) fn seal_block(&self, block: &mut [u8]) -> Result<SealedWriter, Refusal>
-        ensures { Seals self.now block.old block.new result }
+    // Whether the buffer has the length of a block, and all units are in.
+    fn check_whole(&self, block: &[u8]) -> Result<(), Refusal>
+        ensures { MatchResult result (λ _. WholeAndSized self.now block.now) (λ refusal. first_refusal (sealing_complaints self.now block.now) ≡ Some refusal) }
     {
-        let size = self.settings.size();
-        check_buffer(size, block)?;
+        check_buffer(self.settings.size(), block)?;
         if self.added < self.layout().units {
             return Err(Refusal::Unfinished);
         }
+        Ok(())
+    }
+
+    // Writes all but the units.
+    pub(crate) fn write_all(&self, block: &mut [u8]) -> SealedWriter
+        requires { WholeAndSized self.now block.old }
+        ensures size { result.size ≡ self.now.settings.size }
+        ensures block { block.new ≡ superframe self.now.settings (units_in self.now.starts self.now.added block.old) }
+    {
         self.write_header(block);
         self.write_unit_checks(block);
+        // Behind the units' checks, since short units bring these into the nine bytes.
         write_fire_word(block);
-        fill_rows(size, block)?;
-        Ok(SealedWriter { size })
+        fill_rows(self.settings.size(), block);
+        SealedWriter {
+            size: self.settings.size(),
+        }
     }
 
     // Writes the header, the checks of the units and those of the rows, once all units are in.
     pub fn seal(self, block: &mut [u8]) -> Result<SealedWriter, Refused<OpenWriter>>
         ensures { MatchResult result (λ sealed. Seals self block.old block.new (Ok sealed)) (λ refused. Seals self block.old block.new (Err refused.refusal) × (refused.state ≡ self)) }
     {
-        match self.seal_block(block) {
-            Ok(sealed) => Ok(sealed),
-            Err(refusal) => Err(Refused {
+        if let Err(refusal) = self.check_whole(block) {
+            return Err(Refused {
                 state: self,
                 refusal,
-            }),
+            });
         }
+        Ok(self.write_all(block))
     }
 }
 
@@ -200,10 +205,10 @@ impl SealedWriter {
         ensures { MatchResult result (λ frame. HandsOut self.now block.now n (Ok frame.now)) (λ refusal. HandsOut self.now block.now n (Err refusal)) }
     {
         check_buffer(self.size, block)?;
-        if n >= 5 {
+        if n >= FRAMES {
             return Err(Refusal::Index);
         }
-        let length = 24 * self.size;
+        let length = FRAME_BYTES * self.size;
         Ok(&block[length * n..length * (n + 1)])
     }
 }

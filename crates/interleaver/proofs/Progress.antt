@@ -57,17 +57,18 @@ module _ (rows symbols checks : ℕ) where
     pub left : repair.rows_left ≡ count_by is_none outcomes
     pub lowest : repair.lowest_left ≡ position is_none outcomes
 
-  pub repaired_none : (block : List ℕ) → RepairedTo 0 block block (record { changed = 0; rows_left = 0; lowest_left = None })
-  repaired_none block = record {
+  pub repaired_none : (block : List ℕ) (repair : Repair)
+      → (repair.changed ≡ 0) × ((repair.rows_left ≡ 0) × (repair.lowest_left ≡ None)) → RepairedTo 0 block block repair
+  repaired_none block repair none = record {
     long = refl;
     outcomes = [];
     each = refl;
     by_row = λ i h. absurd (omega arith);
     rest = λ i h k. refl;
-    changed = refl;
-    few = omega arith;
-    left = refl;
-    lowest = refl;
+    changed = none.0;
+    few = omega (arith, none.0);
+    left = none.1.0;
+    lowest = none.1.1;
   }
 
   -- one row more is repaired

@@ -11,7 +11,7 @@ use codes::{MAX_SYMBOLS, WORK_SYMBOLS, correct, encode};
 use gf::{Gf256, Refusal};
 
 // What a repair did.
-#[derive(Clone, Copy, PartialEq, Eq, Debug)]
+#[derive(Clone, Copy, PartialEq, Eq, Debug, Default)]
 pub struct Repair {
     // How many bytes have changed.
     pub changed: usize,
@@ -35,6 +35,7 @@ impl RowLayout {
         let mut symbols = [Gf256(0); MAX_SYMBOLS];
         let word = &mut symbols[..self.symbols];
         self.gather(row, block, word);
+        // It can be refused only since no codeword is near enough.
         let changed = correct(word, self.checks, work).ok()?;
         if changed > 0 {
             self.scatter(row, word, block);
@@ -54,11 +55,7 @@ impl RowLayout {
             return Err(Refusal::Buffer);
         }
         let mut work = [Gf256(0); WORK_SYMBOLS];
-        let mut repair = Repair {
-            changed: 0,
-            rows_left: 0,
-            lowest_left: None,
-        };
+        let mut repair = Repair::default();
         for row in 0..self.rows {
             match self.repair_row(row, block, &mut work) {
                 Some(changed) => repair.changed += changed,

@@ -12,4 +12,4 @@ invariant_of-remainder c = record { admits = refl }
 
 pub returns : goal.returns
 unfolding bits zeros
-returns c = c.packed.ensures ∙ ap (binary 0) (c.remainder.ensures ∙ ap (λ w. remainder_of gf2 w fire_generator) (covered-zeros c.args.bytes.now))
+returns c = c.word_of.ensures ∙ ap (binary 0) (c.remainder.ensures ∙ ap (λ w. remainder_of gf2 w fire_generator) (covered-zeros c.args.bytes.now))

@@ -15,5 +15,5 @@ unfolding bits zeros
 returns c =
     let symbols = c.remainder.result in
     let long : length symbols ≡ 16 = search rules in
-    ap (λ (n : ℕ). 65535 - n) c.packed.ensures ∙ complement (meanings symbols) (length-map symbols (λ s. bits 1 s.0) ∙ long)
+    ap (λ (n : ℕ). 65535 - n) c.word_of.ensures ∙ complement (meanings symbols) (length-map symbols (λ s. bits 1 s.0) ∙ long)
     ∙ ap (λ p. binary 0 (map (gf2.add gf2.one) p)) c.remainder.ensures

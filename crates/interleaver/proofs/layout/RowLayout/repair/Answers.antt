@@ -24,7 +24,10 @@ returns-then-block-block_length c =
 pub loop-row-init : goal.loop-row-init
 loop-row-init c =
     let l = c.args.self.now in
-    record { repaired = repaired_none l.rows l.symbols l.checks c.args.block.now; work = zero_work 512 }
+    record {
+      repaired = repaired_none l.rows l.symbols l.checks c.args.block.now c.default-repair.result c.default-repair.ensures;
+      work = zero_work 512;
+    }
 
 pub loop-row-preserved : goal.loop-row-preserved
 loop-row-preserved c =

@@ -1,6 +1,6 @@
 use Rattle.std.proofs.Common.{◌≡◌, ℕ, ◌<◌, [], map, get_or}
 use Rattle.block.specs.Places.{unit_in}
-use Rattle.block.proofs.writer.OpenWriter.copy.Given as goal
+use Rattle.block.proofs.writer.OpenWriter.copy_units.Given as goal
 
 -- the units before stand in their places
 abbrev pub invariant-loop-n : goal.invariant-loop-n

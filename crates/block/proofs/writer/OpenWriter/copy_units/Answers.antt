@@ -6,8 +6,8 @@ use Rattle.std.proofs.lemmas.List.FromFn.{fill_by_all}
 use Rattle.block.specs.Places.{unit_in}
 use Rattle.block.proofs.Placing.{start-le_end, start-le_start}
 use Rattle.block.proofs.Copying.{part_written, part_before}
-use Rattle.block.proofs.writer.OpenWriter.copy.Goals.{After-from-start}
-use Rattle.block.proofs.writer.OpenWriter.copy.Goals as goal
+use Rattle.block.proofs.writer.OpenWriter.copy_units.Goals.{After-from-start}
+use Rattle.block.proofs.writer.OpenWriter.copy_units.Goals as goal
 
 -- the unit that is copied, as the clauses have it
 unit : (c : After-from-start) → (get_or c.args.units.now c.loop-n.n (record { ref_ptr = (0, 0); now = [] })).now

@@ -7,19 +7,19 @@ use Rattle.block.specs.Headers.{first_refusal}
 use Rattle.block.specs.Writing.{add_complaints, OneMore}
 use Rattle.block.specs.WritingSteps.{PlacesAll}
 use Rattle.block.proofs.PlacingAll.{PlacedTo, placed_none, placed_more, refused_at, too_few, placed_all}
-use Rattle.block.proofs.writer.OpenWriter.with_room_for.Goals.{After-place}
-use Rattle.block.proofs.writer.OpenWriter.with_room_for.Goals as goal
+use Rattle.block.proofs.writer.OpenWriter.with_places_for.Goals.{After-reserve}
+use Rattle.block.proofs.writer.OpenWriter.with_places_for.Goals as goal
 
 pub loop-unit-init : goal.loop-unit-init
 loop-unit-init c =
     placed_none c.args.settings (map (λ unit. unit.now) c.args.units.now) c.new-writer.result c.new-writer.ensures.settings c.new-writer.ensures.empty
 
 -- how long the next unit is
-long : (c : After-place) → length (get_or c.args.units.now c.loop-unit.unit-index (record { ref_ptr = (0, 0); now = [] })).now
+long : (c : After-reserve) → length (get_or c.args.units.now c.loop-unit.unit-index (record { ref_ptr = (0, 0); now = [] })).now
     ≡ length (get_or (map (λ unit. unit.now) c.args.units.now) c.loop-unit.unit-index [])
 long c = ap length (sym (get_or-map (λ unit. unit.now) c.args.units.now c.loop-unit.unit-index (record { ref_ptr = (0, 0); now = [] }) [] c.loop-unit-test.true))
 
-few : (c : After-place) → length (map (λ unit. unit.now) c.args.units.now) ≤ (layout_for c.args.settings).units
+few : (c : After-reserve) → length (map (λ unit. unit.now) c.args.units.now) ≤ (layout_for c.args.settings).units
 few c =
     omega (
       arith,
@@ -28,26 +28,26 @@ few c =
       ap (λ s. (layout_for s).units) c.new-writer.ensures.settings,
     )
 
-pub returns-in_err-place : goal.returns-in_err-place
-returns-in_err-place c =
+pub returns-in_err-reserve : goal.returns-in_err-reserve
+returns-in_err-reserve c =
     let p = err_from_is_err_and c.from_residual.result c.from_residual.ensures.1 in
     let units = map (λ unit. unit.now) c.args.units.now in
-    let k = (goal.at.returns-in_err-place c).After-place in
+    let k = (goal.at.returns-in_err-reserve c).After-reserve in
     let w = c.loop-unit.writer in
-    let refused = refused_at c.args.settings units c.loop-unit.unit-index w c.in_err-place.field-0.0
+    let refused = refused_at c.args.settings units c.loop-unit.unit-index w c.in_err-reserve.field-0.0
     (omega (arith, length-map c.args.units.now (λ unit. unit.now))) (few k) c.loop-unit.invariant
-    (subst (λ (n : ℕ). first_refusal (add_complaints w n) ≡ Some c.in_err-place.field-0.0) (long k) c.in_err-place.ensures.0) in
+    (subst (λ (n : ℕ). first_refusal (add_complaints w n) ≡ Some c.in_err-reserve.field-0.0) (long k) c.in_err-reserve.ensures.0) in
     subst (PlacesAll c.args.settings units) (sym (p.1 ∙ ap Err p.2)) refused
 
 pub loop-unit-preserved : goal.loop-unit-preserved
 loop-unit-preserved c =
     let units = map (λ unit. unit.now) c.args.units.now in
-    let k = (goal.at.loop-unit-preserved c).After-place in
+    let k = (goal.at.loop-unit-preserved c).After-reserve in
     let w = c.loop-unit.writer in
-    placed_more c.args.settings units c.loop-unit.unit-index w c.place.new.self
+    placed_more c.args.settings units c.loop-unit.unit-index w c.reserve.new.self
     (omega (arith, length-map c.args.units.now (λ unit. unit.now))) (few k) c.loop-unit.invariant
-    (subst (λ (n : ℕ). first_refusal (add_complaints w n) ≡ None) (long k) c.in_ok-place.ensures.0)
-    (subst (λ (n : ℕ). OneMore w n c.place.new.self) (long k) c.in_ok-place.ensures.1.1)
+    (subst (λ (n : ℕ). first_refusal (add_complaints w n) ≡ None) (long k) c.in_ok-reserve.ensures.0)
+    (subst (λ (n : ℕ). OneMore w n c.reserve.new.self) (long k) c.in_ok-reserve.ensures.1.1)
 
 pub returns-then-writer-layout : goal.returns-then-writer-layout
 returns-then-writer-layout c =
