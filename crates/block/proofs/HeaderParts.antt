@@ -1,5 +1,5 @@
 -- A header is read exactly where every condition holds; and what the packed starts take of it.
-use Rattle.std.proofs.Common.{◌≡◌, ℕ, zero, suc, ◌+◌, ◌-◌, ◌*◌, ◌/◌, ◌%◌, ◌<◌, ◌≤◌, Bool, true, false, cond, not, ◌&&◌, eqb, leb, List, [], ◌∷◌, length, get_or, drop, is_some, Some, None, Ok, Option, Result, unwrap_or, refl, ap, ◌∙◌, ap₂, arith, lt-ltb, ne_eqb, leb-true, le-leb, le-ltb, eqb-true, eq-eqb}
+use Rattle.std.proofs.Common.{◌≡◌, ℕ, zero, suc, ◌+◌, ◌-◌, ◌*◌, ◌/◌, ◌%◌, ◌<◌, ◌≤◌, Bool, true, false, cond, not, ◌&&◌, eqb, leb, List, [], ◌∷◌, length, get_or, drop, length-append, length-drop, is_some, Some, None, Ok, Option, Result, unwrap_or, refl, ap, ◌∙◌, ap₂, arith, lt-ltb, ne_eqb, leb-true, le-leb, le-ltb, eqb-true, eq-eqb}
 use Rattle.std.proofs.lemmas.Bool.{and_parts, and_from}
 use Rattle.gf.specs.declared.refusal.Refusal.{Refusal}
 use Rattle.gf.specs.declared.refusal.Refusal.TheVariants as refusals
@@ -7,9 +7,13 @@ use Rattle.block.specs.declared.header.Header.{Header}
 use Rattle.block.specs.declared.parameters.DacRate.{DacRate}
 use Rattle.block.specs.declared.parameters.DacRate.TheVariants.{Khz32, Khz48}
 use Rattle.block.specs.declared.parameters.Layout.{Layout}
+use Rattle.block.specs.declared.settings.Settings.{Settings}
 use Rattle.block.specs.Bytes.{unsigned}
 use Rattle.block.specs.Layouts.{layout, right}
 use Rattle.block.specs.Headers.{start, crowded, fire_fits, fills, unless, layout_of, written, crowded_of, header}
+use Rattle.block.specs.SuperFrames.{parameter_byte, checked_units, unit_starts, digits, packed, layout_for, super_frame_data}
+use Rattle.block.proofs.PackedStarts.{length-packed}
+use Rattle.block.proofs.UnitStarts.{length-unit_starts}
 
 -- the packed starts of all units but the first end with the header
 pub length-header : (d : DacRate) (sbr : Bool) → 3 + (3 * ((layout d sbr).units - 1) + 1) / 2 ≡ (layout d sbr).header_length
@@ -98,3 +102,25 @@ module _ (size : ℕ) (block : List ℕ) where
             },
             cc,
           )
+
+-- the bytes of a super frame
+
+-- the header of a super frame behind its Fire word
+abbrev pub header_bytes : Settings → List (List ℕ) → List ℕ
+header_bytes s us = parameter_byte s.parameters ∷ packed (digits (drop 1 (unit_starts (layout_for s).header_length us)))
+
+module _ (s : Settings) (us : List (List ℕ)) (count : length us ≡ (layout_for s).units) where
+  pub length-header_bytes : length (header_bytes s us) + 2 ≡ (layout_for s).header_length
+  length-header_bytes =
+      let starts = unit_starts (layout_for s).header_length us in
+      omega (
+        arith,
+        length-packed (drop 1 starts),
+        length-drop 1 starts,
+        length-unit_starts (layout_for s).header_length us,
+        length-header s.parameters.dac s.parameters.sbr,
+        count,
+      )
+
+  pub length-super_frame_data : length (super_frame_data s us) ≡ (layout_for s).header_length + length (checked_units us)
+  length-super_frame_data = omega (arith, length-header_bytes, length-append (header_bytes s us) (checked_units us))

@@ -15,7 +15,7 @@ use Rattle.block.specs.SuperFrames.{two_bytes, checked_units, unit_starts, digit
 use Rattle.block.specs.Places.{unit_in, units_in}
 use Rattle.block.specs.Laws.{untouched, ReadsAs, OpeningWhatWasSealed}
 use Rattle.block.specs.Stages.{Fits}
-use Rattle.block.proofs.HeaderParts.{length-header, aligned-odd, crowded-none, start_packed, Right, header-right}
+use Rattle.block.proofs.HeaderParts.{length-super_frame_data, length-header, aligned-odd, crowded-none, start_packed, Right, header-right}
 use Rattle.block.proofs.PackedStarts.{length-packed, unsigned-packed, unsigned-packed_odd}
 use Rattle.block.proofs.ParameterBytes.{parameters-parameter_byte, right-parameter_byte}
 use Rattle.block.proofs.RowChecks.{all_codewords, length-all_row_checks}
@@ -229,9 +229,8 @@ module _ (s : Settings) (units : List (List ℕ)) (f : Fill s units) where
   abbrev fire : ℕ
   fire = fire_word (take 9 (behind_fire s units))
 
-  pub length-super_frame_data : length frame ≡ 110 * s.size
-  length-super_frame_data =
-      omega (arith, length-append (packed (digits others)) (checked_units units), length-packed-others, f.full)
+  length-frame : length frame ≡ 110 * s.size
+  length-frame = omega (arith, length-super_frame_data s units f.count, f.full)
 
   abbrev whole : List ℕ
   whole = block (fire / 256) (fire % 256) p checks
@@ -246,7 +245,7 @@ module _ (s : Settings) (units : List (List ℕ)) (f : Fill s units) where
   length-whole : length whole ≡ 120 * s.size
   length-whole =
       ap length (sym data-whole) ∙ length-append frame checks
-      ∙ omega (arith, length-super_frame_data, length-all_row_checks s.size frame)
+      ∙ omega (arith, length-frame, length-all_row_checks s.size frame)
 
   fire_fits-whole : fire_fits whole ≡ true
   fire_fits-whole =
@@ -254,7 +253,7 @@ module _ (s : Settings) (units : List (List ℕ)) (f : Fill s units) where
       ∙ sym (word-two_bytes fire (p ∷ packs (fire / 256) (fire % 256) p checks)))
     where
       long : 9 ≤ length (behind_fire s units)
-      long = omega (arith, length-super_frame_data, s.in_range)
+      long = omega (arith, length-frame, s.in_range)
 
   reads : ReadsAs s units (superframe s units)
   reads =
@@ -263,7 +262,7 @@ module _ (s : Settings) (units : List (List ℕ)) (f : Fill s units) where
       (repaired-untouched s.size 120 10 whole refl codewords) codewords length-whole fire_fits-whole)
     where
       codewords : AllCodewords s.size 120 10 whole
-      codewords = subst (AllCodewords s.size 120 10) data-whole (all_codewords s.size frame length-super_frame_data)
+      codewords = subst (AllCodewords s.size 120 10) data-whole (all_codewords s.size frame length-frame)
 
 pub opening_what_was_sealed : OpeningWhatWasSealed
 opening_what_was_sealed = reads

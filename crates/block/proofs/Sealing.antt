@@ -1,55 +1,22 @@
 -- Sealing a super frame: what the four writes of a whole writer make of a buffer.
-use Rattle.std.proofs.Common.{◌≡◌, ℕ, ◌+◌, ◌-◌, ◌*◌, ◌/◌, ◌<◌, ◌≤◌, Bool, true, false, List, [], ◌∷◌, ◌++◌, length, get_or, take, drop, sym, refl, ap, ◌∙◌, ap₂, append_assoc, ⊎_elim, subst, arith, length-append, length-take-le, length-drop, take_at, drop_at, drop-drop}
+use Rattle.std.proofs.Common.{◌≡◌, ℕ, ◌+◌, ◌-◌, ◌*◌, ◌<◌, ◌≤◌, List, [], ◌∷◌, ◌++◌, length, get_or, take, drop, sym, ap, ◌∙◌, ap₂, append_assoc, ⊎_elim, subst, arith, length-append, length-take-le, length-drop, take_at, drop_at, drop-drop}
 use Rattle.std.proofs.lemmas.Bool.{cases_lt}
 use Rattle.std.proofs.lemmas.List.{get_or_past, get_or-take, take-append-le, drop-take}
 use Rattle.std.proofs.lemmas.List.Elements.{All-from_get_or}
 use Rattle.std.proofs.lemmas.List.FromFn.{length-map-range_with_len, get_or-map-range_with_len, fill_by_all}
 use Rattle.interleaver.specs.Rows.{ChecksFilled, AreBytes}
-use Rattle.block.specs.declared.parameters.DacRate.{DacRate}
-use Rattle.block.specs.declared.parameters.DacRate.TheVariants.{Khz32, Khz48}
-use Rattle.block.specs.declared.settings.Settings.{Settings}
 use Rattle.block.specs.declared.writer.OpenWriter.{OpenWriter}
 use Rattle.block.specs.Checks.{fire_word}
-use Rattle.block.specs.Layouts.{layout}
 use Rattle.block.specs.Stages.{Fits}
 use Rattle.block.specs.SuperFrames.{parameter_byte, two_bytes, checked_units, unit_starts, digits, packed, layout_for, behind_fire, super_frame_data, all_row_checks, superframe, Fill}
 use Rattle.block.specs.Places.{unit_in, units_in}
 use Rattle.block.specs.WritingSteps.{WholeAndSized, with_header, with_unit_checks}
 use Rattle.block.proofs.Starts.{layout_fits}
+use Rattle.block.proofs.HeaderParts.{header_bytes, length-header_bytes, length-super_frame_data}
 use Rattle.block.proofs.Placing.{start-le_end, header-le_start}
-use Rattle.block.proofs.PackedStarts.{length-packed}
-use Rattle.block.proofs.UnitStarts.{length-unit_starts, length-unit_of, unit_starts-found}
+use Rattle.block.proofs.UnitStarts.{length-unit_of, unit_starts-found}
 use Rattle.block.proofs.UnitChecks.{length-checked_units_in}
 use Rattle.block.proofs.RowChecks.{filled_is}
-
--- the bytes of a super frame
-
--- the Fire word, the parameters and the packed starts fill the header
-header_length-layout : (d : DacRate) (sbr : Bool) → (layout d sbr).header_length ≡ 3 + (3 * ((layout d sbr).units - 1) + 1) / 2
-header_length-layout Khz32 true = refl
-header_length-layout Khz48 true = refl
-header_length-layout Khz32 false = refl
-header_length-layout Khz48 false = refl
-
--- the header of a super frame behind its Fire word
-abbrev pub header_bytes : Settings → List (List ℕ) → List ℕ
-header_bytes s us = parameter_byte s.parameters ∷ packed (digits (drop 1 (unit_starts (layout_for s).header_length us)))
-
-module _ (s : Settings) (us : List (List ℕ)) (count : length us ≡ (layout_for s).units) where
-  pub length-header_bytes : length (header_bytes s us) + 2 ≡ (layout_for s).header_length
-  length-header_bytes =
-      let starts = unit_starts (layout_for s).header_length us in
-      omega (
-        arith,
-        length-packed (drop 1 starts),
-        length-drop 1 starts,
-        length-unit_starts (layout_for s).header_length us,
-        header_length-layout s.parameters.dac s.parameters.sbr,
-        count,
-      )
-
-  pub length-super_frame_data : length (super_frame_data s us) ≡ (layout_for s).header_length + length (checked_units us)
-  length-super_frame_data = omega (arith, length-header_bytes, length-append (header_bytes s us) (checked_units us))
 
 -- buffers that are the same from one place on are the same from a later one on
 drop_later : (a b : List ℕ) (i j : ℕ) → i ≤ j → drop i a ≡ drop i b → drop j a ≡ drop j b
