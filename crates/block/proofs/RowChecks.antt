@@ -15,6 +15,8 @@ use Rattle.codes.specs.Codewords.{Codeword, checks_of}
 use Rattle.codes.proofs.Lists.{cons}
 use Rattle.codes.proofs.ChecksOf.{length-checks_of, codeword-checks_of, codeword_is}
 use Rattle.interleaver.specs.Rows.{place_of, row_of, elements, ChecksFilled, AreBytes, AllCodewords}
+use Rattle.interleaver.proofs.Places.{place_within, length-row_of, get_or-row_of}
+use Rattle.interleaver.proofs.Repairing.{AreBytes-row_of}
 use Rattle.block.specs.SuperFrames.{row_checks, all_row_checks}
 
 -- bytes and the elements that they mean
@@ -34,30 +36,13 @@ bytes-number (u ∷ word) (suc k) = bytes-number word k
 
 -- the bytes of a row
 
--- the first n bytes of the rows stand in front
-place-lt : (rows n row column : ℕ) → row < rows → column < n → place_of rows row column < rows * n
-place-lt rows n row column h k = omega (arith, mul-le-mul_left rows k)
-
-pub length-row_of : (rows n : ℕ) (block : List ℕ) (row : ℕ) → length (row_of rows n block row) ≡ n
-length-row_of rows n block row = length-map-range_with_len (λ column. get_or block (place_of rows row column) 0) 0 n
-
-get_or-row_of : (rows n : ℕ) (block : List ℕ) (row column : ℕ) → column < n
-    → get_or (row_of rows n block row) column 0 ≡ get_or block (place_of rows row column) 0
-get_or-row_of rows n block row column h =
-    get_or-map-range_with_len (λ column. get_or block (place_of rows row column) 0) 0 n column column 0 h (omega arith)
-
-bytes-row_of : (rows n : ℕ) (block : List ℕ) (row : ℕ) → AreBytes block → AreBytes (row_of rows n block row)
-bytes-row_of rows n block row bytes k =
-    ⊎_elim (λ (h : k < n). omega (arith, get_or-row_of rows n block row k h, bytes (place_of rows row k)))
-    (λ (h : n ≤ k). omega (arith, get_or_past (row_of rows n block row) k 0 (omega (arith, length-row_of rows n block row)))) (cases_lt k n)
-
 row_of-take : (rows n front : ℕ) (block : List ℕ) (row : ℕ) → row < rows → front ≡ rows * n
     → row_of rows n (take front block) row ≡ row_of rows n block row
 row_of-take rows n front block row h e =
     fill_by_all (λ column. get_or block (place_of rows row column) 0) (row_of rows n (take front block) row) n 0
     (length-row_of rows n (take front block) row)
     (λ column k. get_or-row_of rows n (take front block) row column k
-    ∙ get_or-take front block (place_of rows row column) 0 (omega (arith, place-lt rows n row column h k)))
+    ∙ get_or-take front block (place_of rows row column) 0 (omega (arith, place_within rows n row column h k)))
 
 -- the rows of the data are the fronts of the rows
 pub row_of-data : (size : ℕ) (block : List ℕ) (i : ℕ) → i < size
@@ -127,7 +112,7 @@ block_is size block some long rows =
 row_of-codeword : (size : ℕ) (block : List ℕ) (i : ℕ) → i < size → AreBytes block → Codeword gf256 10 (elements (row_of size 120 block i))
     → row_of size 120 block i ≡ row_of size 110 (take (110 * size) block) i ++ row_checks size (take (110 * size) block) i
 row_of-codeword size block i h bytes c =
-    sym (number-elements row (bytes-row_of size 120 block i bytes))
+    sym (number-elements row (AreBytes-row_of size 120 block i bytes))
     ∙ ap (map (number 8)) (whole ∙ ap (λ word. word ++ checks_of gf256 10 word) fronts)
     ∙ map-append (number 8) (elements front) (checks_of gf256 10 (elements front))
     ∙ ap (λ bytes. bytes ++ row_checks size (take (110 * size) block) i) (number-elements front front_bytes)
@@ -140,7 +125,7 @@ row_of-codeword size block i h bytes c =
 
     front_bytes : AreBytes front
     front_bytes =
-        subst AreBytes (sym (row_of-take size 110 (110 * size) block i h (omega arith))) (bytes-row_of size 110 block i bytes)
+        subst AreBytes (sym (row_of-take size 110 (110 * size) block i h (omega arith))) (AreBytes-row_of size 110 block i bytes)
 
     long : length (elements row) ≡ 120
     long = length-map row (bits 8) ∙ length-row_of size 120 block i
@@ -187,14 +172,14 @@ row_of-append size frame i h long =
 
     behind : (j : ℕ) → j < 10 → get_or (row_checks size frame i) j 0 ≡ get_or (all_row_checks size frame) (j * size + i) 0
     behind j k =
-        sym (get_or-all_row_checks size frame (j * size + i) (omega (arith, place-lt size 10 i j h k))
+        sym (get_or-all_row_checks size frame (j * size + i) (omega (arith, place_within size 10 i j h k))
         ∙ ap₂ (λ (row column : ℕ). get_or (row_checks size frame row) column 0) (mod-mul-add j size i h) (div-mul-add j size i h))
 
     at : (k : ℕ) → k < 120 → get_or (row_of size 110 frame i ++ row_checks size frame i) k 0 ≡ get_or block (place_of size i k) 0
     at k m =
         ⊎_elim (λ (q : k < 110). get_or_append_left (row_of size 110 frame i) (row_checks size frame i) 0 k (omega (arith, length-row_of size 110 frame i))
         ∙ get_or-row_of size 110 frame i k q
-        ∙ sym (get_or_append_left frame (all_row_checks size frame) 0 (place_of size i k) (omega (arith, place-lt size 110 i k h q))))
+        ∙ sym (get_or_append_left frame (all_row_checks size frame) 0 (place_of size i k) (omega (arith, place_within size 110 i k h q))))
         (λ (q : 110 ≤ k). get_or-append_right (row_of size 110 frame i) (row_checks size frame i) 110 k 0 (length-row_of size 110 frame i) q
         ∙ behind (k - 110) (omega arith)
         ∙ ap (λ (p : ℕ). get_or (all_row_checks size frame) p 0) (far (k - 110) (omega arith))

@@ -14,7 +14,7 @@ use Rattle.codes.proofs.TakenOff.{distance-same}
 use Rattle.codes.proofs.Words.{minimum_distance}
 use Rattle.interleaver.specs.Rows.{row_of, elements, RowRepaired, BlockRepaired, AllCodewords}
 use Rattle.block.specs.Laws.{untouched}
-use Rattle.block.proofs.RowChecks.{length-row_of}
+use Rattle.interleaver.proofs.Places.{length-row_of}
 
 -- a codeword is corrected to itself
 corrected : (checks : ℕ) (row : List ℕ) → length row ≤ gf256.reach → Codeword gf256 checks (elements row)

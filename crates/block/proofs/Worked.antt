@@ -1,9 +1,8 @@
 -- The worked examples: each is computed, but that no other codeword is near the corrected row, which the minimum distance shows.
-use Rattle.std.proofs.Common.{◌≡◌, ℕ, zero, suc, ◌*◌, ◌<◌, ◌≤◌, Bool, true, ◌&&◌, T, List, [], ◌∷◌, length, get_or, sym, refl, ap, subst, ◌∙◌, ltb, lit<, lit≤, ⊎_elim, arith, mod-eq_of_lt}
+use Rattle.std.proofs.Common.{◌≡◌, ℕ, zero, suc, ◌*◌, ◌<◌, ◌≤◌, Bool, true, ◌&&◌, T, List, [], ◌∷◌, length, get_or, sym, refl, ap, subst, ◌∙◌, ltb, lit<, lit≤, ⊎_elim, arith}
 use Rattle.std.proofs.lemmas.Bool.{cases_lt}
 use Rattle.gf.specs.Theory.{pow}
 use Rattle.gf.specs.Bits.{Bits, bits, number, zeros, plus, equal, only, shift, out, times_x, times_row, times}
-use Rattle.gf.specs.Numbers.{number-bits}
 use Rattle.gf.specs.Fields.{low2, low16, low256, gf256}
 use Rattle.gf.specs.FieldLaws.{laws256}
 use Rattle.gf.specs.Tests.{and_left, and_right}
@@ -12,6 +11,7 @@ use Rattle.codes.specs.Polynomials as polynomials
 use Rattle.codes.proofs.Values.{value-zeros}
 use Rattle.codes.proofs.Words.{syndromes_decide, unique}
 use Rattle.interleaver.specs.Rows.{elements, row_of, AllCodewords}
+use Rattle.interleaver.proofs.Repairing.{same_byte}
 use Rattle.block.specs.Bytes.{unsigned}
 use Rattle.block.specs.Checks.{byte_bits}
 use Rattle.block.specs.Headers.{starts}
@@ -23,15 +23,12 @@ are_bytes [] = true
 are_bytes (b ∷ bytes) = ltb b 256 && are_bytes bytes
 
 -- bytes that mean the same element are the same
-same_byte : (a b : ℕ) → T (ltb a 256) → T (ltb b 256) → bits 8 a ≡ bits 8 b → a ≡ b
-same_byte a b h k e = sym (number-bits 8 a ∙ mod-eq_of_lt (lit< h)) ∙ ap (number 8) e ∙ (number-bits 8 b ∙ mod-eq_of_lt (lit< k))
-
 same_bytes : (xs ys : List ℕ) → length xs ≡ length ys → T (are_bytes xs) → T (are_bytes ys)
     → (j s : ℕ) → bits 8 (get_or xs j s) ≡ bits 8 (get_or ys j s) → get_or xs j s ≡ get_or ys j s
 same_bytes [] [] l t u j s e = refl
 same_bytes [] (y ∷ ys) l t u j s e = absurd (omega arith)
 same_bytes (x ∷ xs) [] l t u j s e = absurd (omega arith)
-same_bytes (x ∷ xs) (y ∷ ys) l t u zero s e = same_byte x y (and_left _ _ t) (and_left _ _ u) e
+same_bytes (x ∷ xs) (y ∷ ys) l t u zero s e = same_byte x y (lit< (and_left _ _ t)) (lit< (and_left _ _ u)) e
 same_bytes (x ∷ xs) (y ∷ ys) l t u (suc j) s e = same_bytes xs ys (omega arith) (and_right _ _ t) (and_right _ _ u) j s e
 
 -- zeros are a codeword

@@ -17,7 +17,7 @@ use Rattle.interleaver.proofs.Lists.{count_by_none, position_none}
 use Rattle.interleaver.proofs.Places.{length-row_of, get_or-row_of, rows_decide}
 
 -- a byte is known by the element that it means
-same_byte : (a b : ℕ) → a < 256 → b < 256 → bits 8 a ≡ bits 8 b → a ≡ b
+pub same_byte : (a b : ℕ) → a < 256 → b < 256 → bits 8 a ≡ bits 8 b → a ≡ b
 same_byte a b h k e =
     let m : a % 2 ^ 8 ≡ b % 2 ^ 8 = sym (number-bits 8 a) ∙ ap (number 8) e ∙ number-bits 8 b in
     omega (arith, m)
@@ -30,7 +30,7 @@ same_bytes u v h k e =
     (sym (get_or-map (bits 8) u i 0 (bits 8 0) b) ∙ ap (λ w. get_or w i (bits 8 0)) e
     ∙ get_or-map (bits 8) v i 0 (bits 8 0) (omega (arith, long))))
 
-AreBytes-row_of : (rows symbols : ℕ) (block : List ℕ) (row : ℕ) → AreBytes block → AreBytes (row_of rows symbols block row)
+pub AreBytes-row_of : (rows symbols : ℕ) (block : List ℕ) (row : ℕ) → AreBytes block → AreBytes (row_of rows symbols block row)
 AreBytes-row_of rows symbols block row h k =
     ⊎_elim
     (λ (b : k < symbols). subst (λ (n : ℕ). n < 256) (sym (get_or-row_of rows symbols block row k b)) (h _))
