@@ -25,7 +25,7 @@ size_of s = s.size
 abbrev pub parameters_of : Settings → Parameters
 parameters_of s = s.parameters
 
--- the refusals of settings, each with its condition: the size is not 1 to 24; or no header can say the parameters
+-- the refusals of settings, each with its condition: the size is not 1 to 24; or surround is above 7, or ps goes without sbr or with stereo
 abbrev pub settings_complaints : ℕ → Parameters → List (Bool × Refusal)
 settings_complaints size p = of_size size ((not (sendable p), refusals.Settings) ∷ [])
 
