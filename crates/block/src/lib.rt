@@ -17,6 +17,7 @@ mod writer;
 pub use checks::{fire_word, unit_check};
 pub use fault::HeaderFault;
 pub use header::{Header, UnitPlace};
+pub use interleaver::Repair;
 pub use making::make_super_frame;
 pub use parameters::{ChannelMode, DacRate, Layout, Parameters};
 pub use reader::{AccessUnit, Opened, Received, Repaired};

@@ -1,7 +1,6 @@
 // Opening a block and its units, one step of the library after the other.
-use block::{Opened, Received, UnitPlace};
+use block::{Opened, Received, Repair, UnitPlace};
 use gf::Refusal;
-use interleaver::Repair;
 use std::fmt;
 
 // A block after the correction of its rows: what the correction did, and the block opened, or why it cannot be.
