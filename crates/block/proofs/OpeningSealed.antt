@@ -4,6 +4,7 @@ use Rattle.std.proofs.lemmas.Bool.{cases_lt}
 use Rattle.std.proofs.lemmas.List.{take-append-le, drop-append-le, take_all, get_or_past, get_or-drop, get_or-take}
 use Rattle.std.proofs.lemmas.List.FromFn.{fill_by_all}
 use Rattle.interleaver.specs.Rows.{BlockRepaired, AllCodewords}
+use Rattle.interleaver.proofs.Repairing.{repaired_once}
 use Rattle.block.specs.declared.header.Header.{Header}
 use Rattle.block.specs.declared.parameters.Layout.{Layout}
 use Rattle.block.specs.declared.settings.Settings.{Settings}
@@ -179,6 +180,7 @@ module _ (s : Settings) (units : List (List ℕ)) (f : Fill s units) where
         → length block ≡ 120 * s.size → fire_fits block ≡ true → ReadsAs s units block
     reads_as e ok repaired codewords long fire = record {
       repaired = repaired;
+      once = λ after repair bytes changed rows. repaired_once s.size 120 10 refl block after block repair untouched (omega (arith, long)) changed bytes rows repaired;
       h = said;
       opened = opened;
       parameters = refl;

@@ -1,5 +1,5 @@
 -- What writing and reading a super frame do to each other.
-use Rattle.std.specs.Prelude.{◌≡◌, ℕ, ◌*◌, ◌<◌, true, List, length, None, Ok}
+use Rattle.std.specs.Prelude.{◌≡◌, ℕ, ◌*◌, ◌<◌, ◌≤◌, true, List, length, None, Ok}
 use Rattle.interleaver.specs.declared.repair.Repair.{Repair}
 use Rattle.interleaver.specs.Rows.{AreBytes}
 use Rattle.block.specs.declared.header.Header.{Header}
@@ -20,6 +20,7 @@ pub record Legible (size : ℕ) (block : List ℕ) (h : Header) : Type 0 where
 
 -- Clean: every row is corrected, and none is left.
 pub record Clean (size : ℕ) (block : List ℕ) : Type 0 where
+  pub in_range : (1 ≤ size) × (size ≤ 24)
   pub long : length block ≡ 120 * size
   pub repaired : List ℕ
   pub repair : Repair
@@ -37,10 +38,12 @@ pub record Flawless (size : ℕ) (block : List ℕ) (h : Header) : Type 0 where
 abbrev pub untouched : Repair
 untouched = record { changed = 0; rows_left = 0; lowest_left = None }
 
--- A block reads as these settings and units: repair changes no byte and leaves no row, and a block is repaired in one way; the header says
+-- A block reads as these settings and units: repair changes no byte and leaves no row, and nothing else is a repair of it; the header says
 -- the settings; and the units are those that the block holds, each with its check. So the block is flawless.
 pub record ReadsAs (s : Settings) (units : List (List ℕ)) (block : List ℕ) : Type 0 where
   pub repaired : RowsRepaired s.size block block untouched
+  pub once : (after : List ℕ) (repair : Repair) → AreBytes block → AreBytes after → RowsRepaired s.size block after repair
+      → (after ≡ block) × (repair ≡ untouched)
   pub h : Header
   pub opened : header s.size block ≡ Ok h
   pub parameters : h.parameters ≡ s.parameters

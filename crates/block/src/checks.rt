@@ -37,8 +37,8 @@ const UNIT: CyclicCheck = CyclicCheck {
     start: ONE,
 };
 
-// The bits of a byte, the top bit first. A symbol means its lowest bit alone. All eight are written out, since neither `array::from_fn`
-// nor `map` is proved: "grind stopped at its own limit", with the goal `returns` open.
+// The bits of a byte, the top bit first. A symbol means its lowest bit alone. All eight are written out, since a proof of neither
+// `array::from_fn` nor `map` is found.
 #[tactic(auto, unfolding(crate::specs::Checks::byte_bits))]
 fn bits_of(byte: u8) -> [Gf2; 8]
     ensures { meanings result ≡ byte_bits byte }

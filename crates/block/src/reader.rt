@@ -1,5 +1,5 @@
 // Reading a block: it is received, then repaired, then opened, in that order only.
-ghost use Rattle.std.specs.Prelude.{◌≡◌, ◌*◌, ◌≤◌, IfOk, MatchResult, Ok, Err};
+ghost use Rattle.std.specs.Prelude.{◌≡◌, ◌≤◌};
 ghost use Rattle.block.specs.Headers.{Tiles};
 
 use super::checks::unit_check;

@@ -32,6 +32,7 @@ pub(crate) fn check_buffer(size: usize, block: &[u8]) -> Result<(), Refusal>
     Ok(())
 }
 
+// A block and its size, both as they have to be.
 #[derive(Clone, Copy)]
 pub(crate) struct SizedBlock<'a> {
     // The subchannel index.

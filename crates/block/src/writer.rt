@@ -1,9 +1,9 @@
 // Writing a super frame: units are added one behind another, then it is sealed, then its logical frames are handed out.
-ghost use Rattle.std.specs.Prelude.{◌≡◌, ◌+◌, ◌-◌, ◌*◌, ◌<◌, ◌≤◌, ◌++◌, ◌∷◌, ◌==◌, ◌≢◌, map, length, take, drop, slice_index, MatchResult, Ok, Err, Some, None};
+ghost use Rattle.std.specs.Prelude.{◌≡◌, ◌+◌, ◌-◌, ◌*◌, ◌<◌, ◌≤◌, ◌++◌, ◌==◌, map, length, take, drop, slice_index, MatchResult, Ok, Err, Some, None};
 ghost use Rattle.block.specs.Checks.{fire_word};
-ghost use Rattle.block.specs.Headers.{first_refusal, of_buffer};
+ghost use Rattle.block.specs.Headers.{first_refusal};
 ghost use Rattle.block.specs.Places.{Placed, units_in};
-ghost use Rattle.block.specs.SuperFrames.{checked_units, digits, layout_for, packed, parameter_byte, super_frame_data, superframe, two_bytes};
+ghost use Rattle.block.specs.SuperFrames.{layout_for, superframe, two_bytes};
 
 use super::checks::{fire_word, unit_check};
 use super::packed_starts::pack;

@@ -38,6 +38,9 @@ pub fn read_request(rt: &HostRuntime) -> Result<Request, Failure> {
     let mut folder_is_next = false;
     for word in env::args(rt)?.skip(1) {
         if folder_is_next {
+            if word.as_str().is_empty() || word.as_str().starts_with('-') {
+                return Err(Failure::NoFolderName(word));
+            }
             folder_is_next = false;
             units = Some(word);
             continue;
@@ -45,7 +48,7 @@ pub fn read_request(rt: &HostRuntime) -> Result<Request, Failure> {
         match word.as_str() {
             "--help" | "-h" => return Ok(Request::Help),
             "--units" if units.is_none() => folder_is_next = true,
-            option if option.starts_with('-') => return Err(Failure::Usage),
+            option if option.starts_with('-') => return Err(Failure::UnknownOption(word)),
             _ if size_word.is_none() => size_word = Some(word),
             _ if file.is_none() => file = Some(word),
             _ => return Err(Failure::Usage),

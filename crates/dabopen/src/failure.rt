@@ -9,6 +9,10 @@ use thiserror::Error;
 pub enum Failure {
     #[error("{USAGE}")]
     Usage,
+    #[error("dabopen: '{0}' is no option that can stand there\n\n{USAGE}")]
+    UnknownOption(String),
+    #[error("dabopen: '{0}' is no name of a folder for --units\n\n{USAGE}")]
+    NoFolderName(String),
     #[error("dabopen: SIZE is a subchannel index from 1 to 24, and not '{0}'")]
     Size(String),
     #[error("dabopen: the file '{0}' cannot be opened")]

@@ -45,7 +45,7 @@ pub fn read_request(rt: &HostRuntime) -> Result<Request, Failure> {
             "--help" | "-h" => return Ok(Request::Help),
             "--hex" => hex = true,
             "-" if spec.is_none() => spec = Some(word),
-            option if option.starts_with('-') => return Err(Failure::Usage),
+            option if option.starts_with('-') => return Err(Failure::UnknownOption(word)),
             _ if spec.is_none() => spec = Some(word),
             _ if file.is_none() => file = Some(word),
             _ => return Err(Failure::Usage),

@@ -9,6 +9,8 @@ use thiserror::Error;
 pub enum Failure {
     #[error("{USAGE}")]
     Usage,
+    #[error("dabseal: '{0}' is no option that can stand there\n\n{USAGE}")]
+    UnknownOption(String),
     #[error("dabseal: the file '{0}' cannot be read")]
     NoSpec(String),
     #[error("dabseal: 'size' is missing")]

@@ -1,5 +1,5 @@
 // Where the bytes of a block's rows stand.
-ghost use Rattle.std.specs.Prelude.{◌≡◌, ◌+◌, ◌*◌, ◌<◌, ◌≤◌, ◌&&◌, true, not, nat_le, map, length, IfOk, MatchResult, Ok, Err};
+ghost use Rattle.std.specs.Prelude.{◌≡◌, ◌+◌, ◌*◌, ◌<◌, ◌≤◌, true, length, IfOk, MatchResult, Ok, Err};
 ghost use Rattle.gf.specs.Fields.{gf256};
 ghost use Rattle.codes.specs.Codewords.{code_shape};
 
