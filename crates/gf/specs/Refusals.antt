@@ -1,5 +1,5 @@
--- The seventeen refusals: number, word, layer, place, and what is shown of each.
-use Rattle.std.specs.Prelude.{ℕ, List, ◌++◌, codes, decimal}
+-- The seventeen refusals: number, word, layer, place, what is shown of each, and which one a call answers.
+use Rattle.std.specs.Prelude.{◌≡◌, ℕ, Bool, cond, not, ◌&&◌, List, [], ◌∷◌, ◌++◌, Some, None, Ok, Err, Option, Result, MatchResult, nat_le, codes, decimal}
 use Rattle.gf.specs.declared.refusal.Refusal.{Refusal}
 use Rattle.gf.specs.declared.refusal.Refusal.TheVariants.{Size, Buffer, Settings, UnitLength, Overfull, Unfinished, Shape, BeyondRepair, Fire, Parameters, Alignment, Starts, Index, UnitCheck, FrameLength, Full, Patience}
 use Rattle.gf.specs.declared.refusal.Layer.{Layer}
@@ -44,3 +44,28 @@ abbrev pub display : Refusal → List ℕ
 display r =
     codes "refused " ++ (decimal (entry r).number ++ (codes " " ++ ((entry r).word ++ (codes ", layer " ++ (decimal (rank (entry r).layer)
     ++ (codes ", place " ++ decimal (entry r).place))))))
+
+-- the value, unless the condition of a refusal holds: then the first such
+abbrev pub unless : {A : Type 0} → List (Bool × Refusal) → A → Result A Refusal
+unless [] value = Ok value
+unless (c ∷ cs) value = cond c.0 (Err c.1) (unless cs value)
+
+-- the first of the refusals whose condition holds
+abbrev pub first_refusal : List (Bool × Refusal) → Option Refusal
+first_refusal [] = None
+first_refusal (c ∷ cs) = cond c.0 (Some c.1) (first_refusal cs)
+
+-- The first refusal whose condition holds is answered; or none holds, and the value is as it should be.
+abbrev pub Answers : {A : Type 0} → List (Bool × Refusal) → (A → Type 0) → Result A Refusal → Type 0
+Answers complaints Right answer =
+    MatchResult answer (λ value. (first_refusal complaints ≡ None) × Right value) (λ refusal. first_refusal complaints ≡ Some refusal)
+
+-- The same of a call that changes something: where it refuses, nothing is changed.
+abbrev pub Performs : {A : Type 0} → List (Bool × Refusal) → (A → Type 0) → Type 0 → Result A Refusal → Type 0
+Performs complaints Done Unchanged answer =
+    MatchResult answer (λ value. (first_refusal complaints ≡ None) × Done value)
+    (λ refusal. (first_refusal complaints ≡ Some refusal) × Unchanged)
+
+-- the refusal of every call that is given a size: it is not 1 to 24; then others
+abbrev pub of_size : ℕ → List (Bool × Refusal) → List (Bool × Refusal)
+of_size size others = (not (nat_le 1 size && nat_le size 24), Size) ∷ others
