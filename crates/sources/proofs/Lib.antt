@@ -1,0 +1,2 @@
+mod Frames
+mod Joining

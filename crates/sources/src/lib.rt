@@ -1,0 +1,11 @@
+// Frame sources: what any source of logical frames means; a recording in memory; a queue in a ring of places.
+#![tactic(auto)]
+
+mod queue;
+mod recording;
+mod ring;
+mod source;
+
+pub use queue::FrameQueue;
+pub use recording::Recording;
+pub use source::{FrameSource, Next};
