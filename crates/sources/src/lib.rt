@@ -5,6 +5,8 @@ mod queue;
 mod recording;
 mod ring;
 mod source;
+#[cfg(test)]
+mod tests;
 
 pub use queue::FrameQueue;
 pub use recording::Recording;

@@ -1,0 +1,123 @@
+// Recordings and queues at their edges.
+use super::{FrameQueue, FrameSource, Next, Recording};
+use gf::Refusal;
+
+// A frame of size 1 that can be told from its 250 neighbours.
+fn frame(number: usize) -> [u8; 24] {
+    [(number % 251) as u8; 24]
+}
+
+// Takes the next frame, of size 1.
+fn take<S: FrameSource>(source: &mut S) -> Option<[u8; 24]> {
+    let mut buffer = [255; 24];
+    match source.next(&mut buffer) {
+        Ok(Next::Frame) => Some(buffer),
+        _ => None,
+    }
+}
+
+#[test]
+fn sizes(rt: HostRuntime) {
+    let bytes = [0; 24 * 768];
+    for (size, recorded, checked) in [
+        (0, Err(Refusal::Size), Err(Refusal::Size)),
+        (1, Ok(24), Err(Refusal::Buffer)),
+        (24, Ok(576), Ok(())),
+        (25, Err(Refusal::Size), Err(Refusal::Size)),
+        (usize::MAX, Err(Refusal::Size), Err(Refusal::Size)),
+    ] {
+        let length = Recording::new(size, &bytes).map(|recording| recording.frame_length());
+        assert_eq!(rt; length, recorded, "recording of size {size}");
+        assert_eq!(rt;
+            FrameQueue::check(size, &bytes),
+            checked,
+            "queue of size {size}"
+        );
+    }
+    for (length, checked) in [
+        (767, Err(Refusal::Buffer)),
+        (768, Ok(())),
+        (769, Err(Refusal::Buffer)),
+    ] {
+        assert_eq!(rt;
+            FrameQueue::check(1, &bytes[..length]),
+            checked,
+            "{length} bytes"
+        );
+    }
+}
+
+#[test]
+fn recordings_leave_out_what_is_unfinished(rt: HostRuntime) {
+    let mut bytes = [7; 46];
+    bytes[24..].fill(9);
+    for (length, frames) in [(0, 0), (23, 0), (24, 1), (25, 1), (46, 1)] {
+        let mut recording = Recording::new(1, &bytes[..length]).expect(&rt, "the size is right");
+        for _ in 0..frames {
+            assert_eq!(rt; take(&mut recording), Some([7; 24]), "{length} bytes");
+        }
+        let mut buffer = [5; 24];
+        assert_eq!(rt;
+            recording.next(&mut buffer),
+            Ok(Next::NothingWaiting),
+            "{length} bytes"
+        );
+        assert_eq!(rt; buffer, [5; 24]);
+        assert_eq!(rt; recording.offer(&buffer), Err(Refusal::Full));
+        assert_eq!(rt; recording.offer(&buffer[1..]), Err(Refusal::FrameLength));
+    }
+}
+
+#[test]
+fn a_queue_is_full_at_32(rt: HostRuntime) {
+    let mut bytes = [0; 768];
+    let mut queue = FrameQueue::new(1, &mut bytes);
+    for number in 0..32 {
+        assert_eq!(rt; queue.offer(&frame(number)), Ok(()), "frame {number}");
+    }
+    assert_eq!(rt; queue.offer(&frame(32)), Err(Refusal::Full));
+    // The length comes before the place.
+    assert_eq!(rt; queue.offer(&[0; 23]), Err(Refusal::FrameLength));
+    assert_eq!(rt; queue.next(&mut [0; 25]), Err(Refusal::FrameLength));
+    assert_eq!(rt; take(&mut queue), Some(frame(0)));
+    assert_eq!(rt; queue.offer(&frame(32)), Ok(()));
+    assert_eq!(rt; queue.offer(&frame(33)), Err(Refusal::Full));
+    for number in 1..33 {
+        assert_eq!(rt; take(&mut queue), Some(frame(number)), "frame {number}");
+    }
+    assert_eq!(rt; take(&mut queue), None);
+}
+
+#[test]
+fn a_queue_goes_around_many_times(rt: HostRuntime) {
+    let mut bytes = [0; 768];
+    let mut queue = FrameQueue::new(1, &mut bytes);
+    let mut offered = 0_usize;
+    let mut taken = 0_usize;
+    // Bursts of 0 to 32 frames, after each of which 0 to 4 frames are left waiting.
+    for turn in 0..1000 {
+        for _ in 0..turn % 33 {
+            if queue.offer(&frame(offered)).is_ok() {
+                offered = offered.saturating_add(1);
+            }
+        }
+        for number in taken..offered.saturating_sub(turn % 5) {
+            assert_eq!(rt; take(&mut queue), Some(frame(number)), "turn {turn}");
+            taken = taken.saturating_add(1);
+        }
+    }
+    assert!(rt; taken > 10_000);
+}
+
+#[test]
+fn a_queue_that_its_check_refuses_takes_nothing(rt: HostRuntime) {
+    for (size, length) in [(0, 0), (1, 767), (1, 0), (25, 25 * 768), (2, 768)] {
+        let mut bytes = [0; 25 * 768];
+        let mut queue = FrameQueue::new(size, &mut bytes[..length]);
+        assert_eq!(rt; queue.frame_length(), 0, "size {size}, {length} bytes");
+        assert_eq!(rt; queue.offer(&[]), Err(Refusal::Full));
+        assert_eq!(rt; queue.offer(&[0]), Err(Refusal::FrameLength));
+        assert_eq!(rt; queue.next(&mut []), Ok(Next::NothingWaiting));
+        assert_eq!(rt; queue.next(&mut [0]), Err(Refusal::FrameLength));
+    }
+}
