@@ -3,6 +3,7 @@ use Rattle.std.proofs.Common.{◌≡◌, ℕ, zero, suc, ◌+◌, ◌-◌, ◌*�
 use Rattle.std.proofs.lemmas.Bool.{and_parts, and_from}
 use Rattle.gf.specs.declared.refusal.Refusal.{Refusal}
 use Rattle.gf.specs.declared.refusal.Refusal.TheVariants as refusals
+use Rattle.gf.specs.Refusals.{unless}
 use Rattle.block.specs.declared.header.Header.{Header}
 use Rattle.block.specs.declared.parameters.DacRate.{DacRate}
 use Rattle.block.specs.declared.parameters.DacRate.TheVariants.{Khz32, Khz48}
@@ -10,7 +11,7 @@ use Rattle.block.specs.declared.parameters.Layout.{Layout}
 use Rattle.block.specs.declared.settings.Settings.{Settings}
 use Rattle.block.specs.Bytes.{unsigned}
 use Rattle.block.specs.Layouts.{layout, right}
-use Rattle.block.specs.Headers.{start, crowded, fire_fits, fills, unless, layout_of, written, crowded_of, header}
+use Rattle.block.specs.Headers.{start, crowded, fire_fits, fills, layout_of, written, crowded_of, header}
 use Rattle.block.specs.SuperFrames.{parameter_byte, checked_units, unit_starts, digits, packed, layout_for, super_frame_data}
 use Rattle.block.proofs.PackedStarts.{length-packed}
 use Rattle.block.proofs.UnitStarts.{length-unit_starts}

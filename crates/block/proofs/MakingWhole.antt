@@ -1,10 +1,10 @@
 -- A writer whose units are in their places makes the super frame of settings and units, which reads as these.
 use Rattle.std.proofs.Common.{◌≡◌, ℕ, ◌*◌, cond, not, List, length, Some, None, Ok, ap, ◌∙◌, sym, subst, ap₂, eq-eqb}
 use Rattle.gf.specs.declared.refusal.Refusal.TheVariants.{Buffer}
+use Rattle.gf.specs.Refusals.{first_refusal}
 use Rattle.block.specs.declared.settings.Settings.{Settings}
 use Rattle.block.specs.declared.writer.OpenWriter.{OpenWriter}
 use Rattle.block.specs.declared.writer.SealedWriter.{SealedWriter}
-use Rattle.block.specs.Headers.{first_refusal}
 use Rattle.block.specs.SuperFrames.{superframe}
 use Rattle.block.specs.Places.{units_in}
 use Rattle.block.specs.Writing.{making_complaints, Makes}
@@ -22,9 +22,7 @@ module _ (s : Settings) (units : List (List ℕ)) (before copied after : List �
   pub made : Makes s units before after (Ok sealed)
   made = (
     ap (λ b. cond (not b) (Some Buffer) (first_refusal (making_complaints s units))) (eq-eqb (length before) (120 * s.size) sized) ∙ fit,
-    fill_from s units fit,
-    size ∙ ap (λ t. t.size) same,
-    written,
+    (fill_from s units fit, size ∙ ap (λ t. t.size) same, written),
   )
 
   pub made_reads : ReadsAs s units after

@@ -1,16 +1,16 @@
 -- Giving units their places, one after another.
-use Rattle.std.proofs.Common.{◌≡◌, ℕ, ◌+◌, ◌-◌, ◌*◌, ◌<◌, ◌≤◌, ◌≢◌, Bool, true, false, cond, not, ◌&&◌, ltb, leb, List, [], length, get_or, set, drop, Some, None, Option, sym, refl, ap, ◌∙◌, ap₂, below_more, le-ltb, get_or-set_same, get_or-set_other, arith}
+use Rattle.std.proofs.Common.{◌≡◌, ℕ, ◌+◌, ◌-◌, ◌*◌, ◌<◌, ◌≤◌, ◌≢◌, Bool, true, false, cond, not, ◌&&◌, ltb, leb, List, [], length, get_or, set, drop, Some, None, Ok, Option, sym, refl, ap, ◌∙◌, ap₂, below_more, le-ltb, get_or-set_same, get_or-set_other, arith}
 use Rattle.std.proofs.lemmas.List.{drop_more, drop_all}
 use Rattle.std.proofs.lemmas.Bool.{lt-ltb, lt-leb}
 use Rattle.gf.specs.declared.refusal.Refusal.{Refusal}
 use Rattle.gf.specs.declared.refusal.Refusal.TheVariants.{UnitLength, Overfull, Unfinished}
+use Rattle.gf.specs.Refusals.{first_refusal}
 use Rattle.block.specs.declared.settings.Settings.{Settings}
 use Rattle.block.specs.declared.writer.OpenWriter.{OpenWriter}
-use Rattle.block.specs.Headers.{first_refusal}
 use Rattle.block.specs.SuperFrames.{layout_for}
 use Rattle.block.specs.Places.{has_room}
 use Rattle.block.specs.Writing.{add_complaints, OneMore, all_fit, making_complaints}
-use Rattle.block.specs.WritingSteps.{HasPlaces}
+use Rattle.block.specs.WritingSteps.{PlacesAll}
 use Rattle.block.proofs.Starts.{layout_fits}
 
 module _ (s : Settings) (units : List (List ℕ)) where
@@ -119,15 +119,16 @@ module _ (s : Settings) (units : List (List ℕ)) where
       ap₂ (λ many fit. decided many fit (ltb (length units) count)) (le-ltb count (length units) (omega (arith, p.added))) (all_fit-placed w p)
       ∙ ap (decided false true) (lt-ltb (length units) count (omega (arith, p.added)))
 
-  pub placed_all : (w : OpenWriter) → PlacedTo (length units) w → length units ≤ count → count ≤ w.added
-      → (first_refusal (making_complaints s units) ≡ None) × (w.settings ≡ s) × HasPlaces w units
+  pub placed_all : (w : OpenWriter) → PlacedTo (length units) w → length units ≤ count → count ≤ w.added → PlacesAll s units (Ok w)
   placed_all w p few all = (
     ap₂ (λ many fit. decided many fit (ltb (length units) count)) (le-ltb count (length units) few) (all_fit-placed w p)
         ∙ ap (decided false true) (le-ltb (length units) count (omega (arith, p.added))),
-    p.settings,
-    record {
-      whole = omega (arith, p.added, ap (λ t. (layout_for t).units) p.settings);
-      count = p.added;
-      each = λ n h. p.each n (omega (arith, p.added));
-    },
+    (
+      p.settings,
+      record {
+        whole = omega (arith, p.added, ap (λ t. (layout_for t).units) p.settings);
+        count = p.added;
+        each = λ n h. p.each n (omega (arith, p.added));
+      },
+    ),
   )

@@ -2,19 +2,20 @@
 use Rattle.std.proofs.Common.{◌≡◌, ℕ, ◌-◌, ◌*◌, Bool, true, false, cond, not, ◌&&◌, eqb, leb, List, [], ◌∷◌, length, get_or, drop, is_some, Some, None, Ok, Err, Option, Result, unwrap_or, sym, refl, ◌∙◌, arith}
 use Rattle.gf.specs.declared.refusal.Refusal.{Refusal}
 use Rattle.gf.specs.declared.refusal.Refusal.TheVariants as refusals
+use Rattle.gf.specs.Refusals.{unless, first_refusal}
 use Rattle.block.specs.declared.fault.HeaderFault.{HeaderFault}
 use Rattle.block.specs.declared.fault.HeaderFault.TheVariants as faults
 use Rattle.block.specs.declared.header.Header.{Header}
 use Rattle.block.specs.Layouts.{refused, parameters, right}
-use Rattle.block.specs.Headers.{starts, fire_fits, fills, unless, of_block, layout_of, written, crowded_of, header}
-use Rattle.block.specs.Stages.{spaced, parted, opened, blocked}
+use Rattle.block.specs.Headers.{starts, fire_fits, fills, of_block, layout_of, written, crowded_of, header}
+use Rattle.block.specs.Stages.{spaced, parted, opened}
 
 -- where the size and the buffer are right, the other conditions decide
-pub past_block : {A : Type 0} (size : ℕ) (block : List ℕ) → blocked size block ≡ Ok tt
+pub past_block : {A : Type 0} (size : ℕ) (block : List ℕ) → first_refusal (of_block size block []) ≡ None
     → (others : List (Bool × Refusal)) (value : A) → unless (of_block size block others) value ≡ unless others value
 past_block {A} size block sized others value = by (not (leb 1 size && leb size 24)) (not (eqb (length block) (120 * size))) sized
   where
-    by : (a b : Bool) → cond a (Err refusals.Size) (cond b (Err refusals.Buffer) (Ok (tt {0}))) ≡ Ok (tt {0})
+    by : (a b : Bool) → cond a (Some refusals.Size) (cond b (Some refusals.Buffer) None) ≡ None
         → cond a (Err refusals.Size) (cond b (Err refusals.Buffer) (unless others value)) ≡ unless others value
     by true b e = absurd (let z : ◌≡◌ {A = ℕ} 0 1 = cc in omega arith)
     by false true e = absurd (let z : ◌≡◌ {A = ℕ} 0 1 = cc in omega arith)
@@ -60,5 +61,5 @@ module _ (size : ℕ) (block : List ℕ) where
   by_fire true = by_read (right (get_or block 2 0))
   by_fire false = refl
 
-  pub opened-header : blocked size block ≡ Ok tt → converted (opened size block) ≡ header size block
+  pub opened-header : first_refusal (of_block size block []) ≡ None → converted (opened size block) ≡ header size block
   opened-header sized = by_fire (fire_fits block) ∙ sym (past_block size block sized (fires (fire_fits block)) (written size block))

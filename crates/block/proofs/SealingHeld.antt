@@ -8,6 +8,7 @@ use Rattle.std.specs.List.{range_with_len}
 use Rattle.gf.specs.declared.refusal.Refusal.TheVariants.{Size}
 use Rattle.gf.specs.declared.refusal.Refusal.TheVariants as refusals
 use Rattle.gf.specs.FieldLaws.{laws256}
+use Rattle.gf.specs.Refusals.{first_refusal}
 use Rattle.codes.proofs.TakenOff.{distance-same}
 use Rattle.interleaver.specs.Rows.{row_of, elements, AreBytes, AllCodewords, wrong}
 use Rattle.interleaver.proofs.Repairing.{few_wrong_corrected}
@@ -18,7 +19,7 @@ use Rattle.block.specs.declared.settings.Settings.{Settings}
 use Rattle.block.specs.Bytes.{unsigned, word}
 use Rattle.block.specs.Checks.{fire_word, unit_check}
 use Rattle.block.specs.Layouts.{layout, parameters}
-use Rattle.block.specs.Headers.{first_refusal, starts, layout_of, written, header, unit_count, check_fits, Tiles}
+use Rattle.block.specs.Headers.{starts, layout_of, written, header, unit_count, check_fits, Tiles}
 use Rattle.block.specs.SuperFrames.{settings_complaints, two_bytes, checked_units, unit_starts, digits, packed, parameter_byte, all_row_checks, superframe, Fill}
 use Rattle.block.specs.Places.{unit_in, units_in}
 use Rattle.block.specs.Laws.{Flawless, MakesAgain, SealingWhatWasHeld}

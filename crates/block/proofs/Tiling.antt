@@ -3,10 +3,11 @@ use Rattle.std.proofs.Common.{◌≡◌, ℕ, zero, suc, ◌+◌, ◌-◌, ◌*�
 use Rattle.std.proofs.lemmas.Bool.{cases_eq}
 use Rattle.gf.specs.declared.refusal.Refusal.{Refusal}
 use Rattle.gf.specs.declared.refusal.Refusal.TheVariants as refusals
+use Rattle.gf.specs.Refusals.{unless}
 use Rattle.block.specs.declared.header.Header.{Header}
 use Rattle.block.specs.declared.parameters.Layout.{Layout}
 use Rattle.block.specs.Layouts.{parameters, right}
-use Rattle.block.specs.Headers.{starts, crowded, fire_fits, fills, unless, layout_of, written, crowded_of, header, Tiles}
+use Rattle.block.specs.Headers.{starts, crowded, fire_fits, fills, layout_of, written, crowded_of, header, Tiles}
 use Rattle.block.specs.Stages.{Fits}
 use Rattle.block.proofs.Starts.{layout_fits, start_at, start_last}
 

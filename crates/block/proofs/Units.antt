@@ -2,11 +2,12 @@
 use Rattle.std.proofs.Common.{◌≡◌, ℕ, ◌+◌, ◌-◌, ◌*◌, ◌<◌, ◌≤◌, Bool, true, false, cond, not, ◌&&◌, eqb, ltb, leb, List, [], ◌∷◌, length, get_or, take, drop, Some, None, Ok, refl, ap, ◌∙◌, ap₂, add-zero, arith, eq-eqb, leb-true}
 use Rattle.std.proofs.lemmas.List.{take-take, get_or-take, get_or-drop}
 use Rattle.gf.specs.declared.refusal.Refusal.TheVariants.{Buffer, Index, UnitCheck}
+use Rattle.gf.specs.Refusals.{unless, first_refusal}
 use Rattle.block.specs.declared.header.Header.{Header}
 use Rattle.block.specs.declared.header.UnitPlace.{UnitPlace}
 use Rattle.block.specs.Bytes.{word}
 use Rattle.block.specs.Checks.{unit_check}
-use Rattle.block.specs.Headers.{unless, first_refusal, unit_count, there, unit_at, check_fits}
+use Rattle.block.specs.Headers.{unit_count, there, unit_at, check_fits}
 use Rattle.block.specs.States.{unit_complaints}
 
 -- the header has this unit

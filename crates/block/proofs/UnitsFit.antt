@@ -4,9 +4,9 @@ use Rattle.std.proofs.lemmas.Bool.{and_parts, and_from}
 use Rattle.std.proofs.lemmas.Bool.Decides.{nat_tests}
 use Rattle.std.proofs.lemmas.List.Elements.{All-nil, All-cons, All-head, All-tail}
 use Rattle.gf.specs.declared.refusal.Refusal.TheVariants.{Overfull, UnitLength, Unfinished}
+use Rattle.gf.specs.Refusals.{first_refusal}
 use Rattle.block.specs.declared.parameters.Layout.{Layout}
 use Rattle.block.specs.declared.settings.Settings.{Settings}
-use Rattle.block.specs.Headers.{first_refusal}
 use Rattle.block.specs.SuperFrames.{checked_units, layout_for, Fill}
 use Rattle.block.specs.Places.{has_room}
 use Rattle.block.specs.Writing.{all_fit, making_complaints}

@@ -1,9 +1,10 @@
 -- The header of a super frame in its block: the starts of the units, what is refused, and the units.
-use Rattle.std.specs.Prelude.{◌≡◌, ℕ, zero, suc, ◌+◌, ◌-◌, ◌*◌, ◌<◌, ◌≤◌, Bool, cond, not, ◌&&◌, ◌||◌, List, [], ◌∷◌, map, length, take, drop, is_some, Some, None, Ok, Err, Option, Result, ◌==◌, nat_le, nat_lt, slice_index, slice_range}
+use Rattle.std.specs.Prelude.{◌≡◌, ℕ, zero, suc, ◌+◌, ◌-◌, ◌*◌, ◌<◌, ◌≤◌, Bool, cond, not, ◌&&◌, ◌||◌, List, [], ◌∷◌, map, length, take, drop, is_some, Some, None, Option, Result, ◌==◌, nat_le, nat_lt, slice_index, slice_range}
 use Rattle.std.specs.Option.{unwrap_or}
 use Rattle.gf.specs.declared.refusal.Refusal.{Refusal}
-use Rattle.gf.specs.declared.refusal.Refusal.TheVariants.{Size, Buffer, Fire, Alignment, Starts, Index}
+use Rattle.gf.specs.declared.refusal.Refusal.TheVariants.{Buffer, Fire, Alignment, Starts, Index}
 use Rattle.gf.specs.declared.refusal.Refusal.TheVariants as refusals
+use Rattle.gf.specs.Refusals.{unless, of_size}
 use Rattle.block.specs.declared.parameters.Layout.{Layout}
 use Rattle.block.specs.declared.header.Header.{Header}
 use Rattle.block.specs.declared.header.UnitPlace.{UnitPlace}
@@ -34,20 +35,6 @@ fire_fits block = fire_word (take 9 (drop 2 block)) == word block 0
 -- the four bits behind the packed starts are zero, where there are such
 abbrev pub fills : Layout → List ℕ → Bool
 fills l packed = not l.aligned || unsigned packed (12 * (l.units - 1)) 4 == 0
-
--- the value, unless the condition of a refusal holds: then the first such
-abbrev pub unless : {A : Type 0} → List (Bool × Refusal) → A → Result A Refusal
-unless [] value = Ok value
-unless (c ∷ cs) value = cond c.0 (Err c.1) (unless cs value)
-
--- the first of the refusals whose condition holds
-abbrev pub first_refusal : List (Bool × Refusal) → Option Refusal
-first_refusal [] = None
-first_refusal (c ∷ cs) = cond c.0 (Some c.1) (first_refusal cs)
-
--- the refusal of every call that is given a size: it is not 1 to 24; then others
-abbrev pub of_size : ℕ → List (Bool × Refusal) → List (Bool × Refusal)
-of_size size others = (not (nat_le 1 size && nat_le size 24), Size) ∷ others
 
 -- the refusal of every call on a block of a size: the buffer has not 120 bytes times the size; then others
 abbrev pub of_buffer : ℕ → List ℕ → List (Bool × Refusal) → List (Bool × Refusal)

@@ -1,11 +1,12 @@
 -- What writing and reading a super frame do to each other.
 use Rattle.std.specs.Prelude.{◌≡◌, ℕ, ◌*◌, ◌<◌, ◌≤◌, true, List, length, None, Ok}
+use Rattle.gf.specs.Refusals.{first_refusal}
 use Rattle.interleaver.specs.declared.repair.Repair.{Repair}
 use Rattle.interleaver.specs.Rows.{AreBytes}
 use Rattle.block.specs.declared.header.Header.{Header}
 use Rattle.block.specs.declared.settings.Settings.{Settings}
 use Rattle.block.specs.BlockRows.{RowsRepaired, RowsRight}
-use Rattle.block.specs.Headers.{first_refusal, header, unit_count, check_fits}
+use Rattle.block.specs.Headers.{header, unit_count, check_fits}
 use Rattle.block.specs.SuperFrames.{settings_complaints, superframe, Fill}
 use Rattle.block.specs.Places.{units_in}
 use Rattle.block.specs.Writing.{making_complaints}

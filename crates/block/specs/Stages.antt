@@ -1,6 +1,7 @@
 -- What the steps of reading a block answer, one by one. The promises of the public calls are in Headers.antt and States.antt.
-use Rattle.std.specs.Prelude.{◌≡◌, ℕ, ◌+◌, ◌-◌, ◌*◌, ◌≤◌, true, cond, List, [], drop, Some, None, Ok, Err, Option, Result, MatchResult, slice_index}
+use Rattle.std.specs.Prelude.{◌≡◌, ℕ, ◌+◌, ◌-◌, ◌*◌, ◌≤◌, true, cond, List, [], drop, Some, None, Ok, Err, Option, Result, slice_index}
 use Rattle.gf.specs.declared.refusal.Refusal.{Refusal}
+use Rattle.gf.specs.Refusals.{Performs}
 use Rattle.block.specs.declared.fault.HeaderFault.{HeaderFault}
 use Rattle.block.specs.declared.fault.HeaderFault.TheVariants as faults
 use Rattle.block.specs.declared.parameters.Parameters.{Parameters}
@@ -9,7 +10,7 @@ use Rattle.block.specs.declared.header.Header.{Header}
 use Rattle.interleaver.specs.declared.repair.Repair.{Repair}
 use Rattle.block.specs.BlockRows.{RowsRepaired}
 use Rattle.block.specs.Layouts.{layout, read}
-use Rattle.block.specs.Headers.{starts, crowded, fire_fits, fills, unless, first_refusal, of_block}
+use Rattle.block.specs.Headers.{starts, crowded, fire_fits, fills, of_block}
 
 -- what every layout keeps: two to six units, a header of five to eleven bytes, and four bits behind the packed starts where they fill
 -- its last byte
@@ -40,12 +41,6 @@ parted size packed (Ok p) = laid size packed (layout p.dac p.sbr) p
 abbrev pub opened : ℕ → List ℕ → Result Header HeaderFault
 opened size block = cond (fire_fits block) (parted size (drop 3 block) (read (slice_index block 2))) (Err faults.Fire)
 
--- the size and the buffer are right
-abbrev pub blocked : ℕ → List ℕ → Result Unit Refusal
-blocked size block = unless (of_block size block []) tt
-
 -- the rows of a block are repaired; or the first refusal is answered, and the buffer is as it was
 abbrev pub RepairsRows : ℕ → List ℕ → List ℕ → Result Repair Refusal → Type 0
-RepairsRows size before after answer =
-    MatchResult answer (λ repair. (first_refusal (of_block size before []) ≡ None) × RowsRepaired size before after repair)
-    (λ refusal. (first_refusal (of_block size before []) ≡ Some refusal) × (after ≡ before))
+RepairsRows size before after answer = Performs (of_block size before []) (RowsRepaired size before after) (after ≡ before) answer

@@ -2,6 +2,7 @@
 use Rattle.std.specs.Prelude.{◌≡◌, ℕ, ◌+◌, ◌-◌, Bool, not, List, [], ◌∷◌, Some, None, Ok, Err, Result, MatchResult, slice_index, slice_range}
 use Rattle.gf.specs.declared.refusal.Refusal.{Refusal}
 use Rattle.gf.specs.declared.refusal.Refusal.TheVariants.{Index, UnitCheck}
+use Rattle.gf.specs.Refusals.{first_refusal, Answers, of_size}
 use Rattle.interleaver.specs.declared.repair.Repair.{Repair}
 use Rattle.block.specs.declared.header.Header.{Header}
 use Rattle.block.specs.declared.reader.Received.{Received}
@@ -10,12 +11,11 @@ use Rattle.block.specs.declared.reader.Opened.{Opened}
 use Rattle.block.specs.declared.reader.AccessUnit.{AccessUnit}
 use Rattle.block.specs.declared.refused.Refused.{Refused}
 use Rattle.block.specs.BlockRows.{RowsRepaired}
-use Rattle.block.specs.Headers.{first_refusal, of_size, of_buffer, header, there, check_fits}
+use Rattle.block.specs.Headers.{of_buffer, header, there, check_fits}
 
 -- A size of 1 to 24 is received; or it is refused.
 abbrev pub Receives : ℕ → Result Received Refusal → Type 0
-Receives size answer =
-    MatchResult answer (λ s. (first_refusal (of_size size []) ≡ None) × (s.size ≡ size)) (λ refusal. first_refusal (of_size size []) ≡ Some refusal)
+Receives size answer = Answers (of_size size []) (λ s. s.size ≡ size) answer
 
 -- The rows of the block are repaired; or the buffer is refused, and state and buffer are as they were.
 abbrev pub Repairs : Received → List ℕ → List ℕ → Result (Repaired × Repair) (Refused Received) → Type 0
@@ -43,7 +43,5 @@ abbrev pub FindsUnit : Opened → List ℕ → ℕ → Result AccessUnit Refusal
 FindsUnit o block n answer =
     let h = o.header in
     let begin = slice_index h.starts n in
-    MatchResult answer
-    (λ u. (first_refusal (unit_complaints h block n) ≡ None) × (u.place ≡ begin)
-    × (u.bytes.now ≡ slice_range block begin (slice_index h.starts (n + 1) - 2)))
-    (λ refusal. first_refusal (unit_complaints h block n) ≡ Some refusal)
+    Answers (unit_complaints h block n)
+    (λ u. (u.place ≡ begin) × (u.bytes.now ≡ slice_range block begin (slice_index h.starts (n + 1) - 2))) answer

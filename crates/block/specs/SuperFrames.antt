@@ -5,6 +5,7 @@ use Rattle.gf.specs.declared.refusal.Refusal.{Refusal}
 use Rattle.gf.specs.declared.refusal.Refusal.TheVariants as refusals
 use Rattle.gf.specs.Bits.{number}
 use Rattle.gf.specs.Fields.{gf256}
+use Rattle.gf.specs.Refusals.{of_size}
 use Rattle.codes.specs.Codewords.{checks_of}
 use Rattle.interleaver.specs.Rows.{elements, row_of}
 use Rattle.block.specs.declared.parameters.DacRate.{DacRate}
@@ -16,7 +17,6 @@ use Rattle.block.specs.declared.parameters.Layout.{Layout}
 use Rattle.block.specs.declared.settings.Settings.{Settings}
 use Rattle.block.specs.Checks.{fire_word, unit_check}
 use Rattle.block.specs.Layouts.{layout, sendable}
-use Rattle.block.specs.Headers.{of_size}
 
 -- the subchannel index of settings, and what they say of the audio
 abbrev pub size_of : Settings → ℕ

@@ -1,11 +1,12 @@
 -- What writing a super frame answers, call by call.
-use Rattle.std.specs.Prelude.{◌≡◌, ℕ, ◌+◌, ◌-◌, ◌*◌, Bool, true, not, ◌&&◌, List, [], ◌∷◌, ◌++◌, length, replicate, take, drop, Some, None, Result, MatchResult, ◌==◌, nat_le, nat_lt, slice_index, slice_set, slice_range}
+use Rattle.std.specs.Prelude.{◌≡◌, ℕ, ◌+◌, ◌-◌, ◌*◌, Bool, true, not, ◌&&◌, List, [], ◌∷◌, ◌++◌, length, replicate, take, drop, Result, ◌==◌, nat_le, nat_lt, slice_index, slice_set, slice_range}
 use Rattle.gf.specs.declared.refusal.Refusal.{Refusal}
 use Rattle.gf.specs.declared.refusal.Refusal.TheVariants.{UnitLength, Overfull, Unfinished, Index}
+use Rattle.gf.specs.Refusals.{Answers, Performs}
 use Rattle.block.specs.declared.settings.Settings.{Settings}
 use Rattle.block.specs.declared.writer.OpenWriter.{OpenWriter}
 use Rattle.block.specs.declared.writer.SealedWriter.{SealedWriter}
-use Rattle.block.specs.Headers.{first_refusal, of_buffer}
+use Rattle.block.specs.Headers.{of_buffer}
 use Rattle.block.specs.SuperFrames.{layout_for, superframe, Fill}
 use Rattle.block.specs.Places.{has_room, units_in}
 
@@ -31,12 +32,10 @@ pub record OneMore (w : OpenWriter) (long : ℕ) (after : OpenWriter) : Type 0 w
 -- The unit is copied to where the next one starts, and nothing else is written; or the first refusal is answered, and nothing is changed.
 abbrev pub Adds : OpenWriter → OpenWriter → List ℕ → List ℕ → List ℕ → Result Unit Refusal → Type 0
 Adds w after unit before block answer =
-    let complaints = of_buffer w.settings.size before (add_complaints w (length unit)) in
     let start = slice_index w.starts w.added in
-    MatchResult answer
-    (λ _. (first_refusal complaints ≡ None) × OneMore w (length unit) after
-    × (block ≡ take start before ++ (unit ++ drop (start + length unit) before)))
-    (λ refusal. (first_refusal complaints ≡ Some refusal) × (after ≡ w) × (block ≡ before))
+    Performs (of_buffer w.settings.size before (add_complaints w (length unit)))
+    (λ _. OneMore w (length unit) after × (block ≡ take start before ++ (unit ++ drop (start + length unit) before)))
+    ((after ≡ w) × (block ≡ before)) answer
 
 -- the refusals of sealing, each with its condition: the buffer has another length; or units are missing
 abbrev pub sealing_complaints : OpenWriter → List ℕ → List (Bool × Refusal)
@@ -46,18 +45,15 @@ sealing_complaints w block =
 -- The buffer becomes the super frame of the units that it holds, which fill it; or the first refusal is answered, and nothing is changed.
 abbrev pub Seals : OpenWriter → List ℕ → List ℕ → Result SealedWriter Refusal → Type 0
 Seals w before block answer =
-    let complaints = sealing_complaints w before in
-    MatchResult answer
-    (λ s. (first_refusal complaints ≡ None) × (s.size ≡ w.settings.size) × Fill w.settings (units_in w.starts w.added before)
-    × (block ≡ superframe w.settings (units_in w.starts w.added before)))
-    (λ refusal. (first_refusal complaints ≡ Some refusal) × (block ≡ before))
+    let units = units_in w.starts w.added before in
+    Performs (sealing_complaints w before)
+    (λ s. (s.size ≡ w.settings.size) × Fill w.settings units × (block ≡ superframe w.settings units)) (block ≡ before) answer
 
 -- Frame n is a fifth of the buffer; or the first refusal is answered.
 abbrev pub HandsOut : SealedWriter → List ℕ → ℕ → Result (List ℕ) Refusal → Type 0
 HandsOut s block n answer =
-    let complaints = of_buffer s.size block ((nat_le 5 n, Index) ∷ []) in
-    MatchResult answer (λ frame. (first_refusal complaints ≡ None) × (frame ≡ slice_range block (24 * s.size * n) (24 * s.size * (n + 1))))
-    (λ refusal. first_refusal complaints ≡ Some refusal)
+    Answers (of_buffer s.size block ((nat_le 5 n, Index) ∷ []))
+    (λ frame. frame ≡ slice_range block (24 * s.size * n) (24 * s.size * (n + 1))) answer
 
 -- units one behind another, the first at `start`, so many units in all, each fit
 abbrev pub all_fit : ℕ → ℕ → ℕ → List (List ℕ) → Bool
@@ -77,7 +73,5 @@ making_complaints s units =
 -- The buffer becomes the super frame of settings and units; or the first refusal is answered, and nothing is changed.
 abbrev pub Makes : Settings → List (List ℕ) → List ℕ → List ℕ → Result SealedWriter Refusal → Type 0
 Makes s units before block answer =
-    let complaints = of_buffer s.size before (making_complaints s units) in
-    MatchResult answer
-    (λ sealed. (first_refusal complaints ≡ None) × Fill s units × (sealed.size ≡ s.size) × (block ≡ superframe s units))
-    (λ refusal. (first_refusal complaints ≡ Some refusal) × (block ≡ before))
+    Performs (of_buffer s.size before (making_complaints s units))
+    (λ sealed. Fill s units × (sealed.size ≡ s.size) × (block ≡ superframe s units)) (block ≡ before) answer

@@ -1,9 +1,9 @@
 -- What the steps of writing a super frame promise each other. No public contract speaks of these.
-use Rattle.std.specs.Prelude.{◌≡◌, ℕ, ◌+◌, ◌-◌, ◌*◌, ◌<◌, List, [], ◌∷◌, ◌++◌, length, take, drop, Some, None, Result, MatchResult, slice_index, slice_index_or}
+use Rattle.std.specs.Prelude.{◌≡◌, ℕ, ◌+◌, ◌-◌, ◌*◌, ◌<◌, List, [], ◌∷◌, ◌++◌, length, take, drop, Result, slice_index, slice_index_or}
 use Rattle.gf.specs.declared.refusal.Refusal.{Refusal}
+use Rattle.gf.specs.Refusals.{Answers}
 use Rattle.block.specs.declared.settings.Settings.{Settings}
 use Rattle.block.specs.declared.writer.OpenWriter.{OpenWriter}
-use Rattle.block.specs.Headers.{first_refusal}
 use Rattle.block.specs.SuperFrames.{layout_for, parameter_byte, packed, digits, checked_units}
 use Rattle.block.specs.Places.{units_in}
 use Rattle.block.specs.Writing.{making_complaints}
@@ -33,6 +33,4 @@ pub record HasPlaces (w : OpenWriter) (units : List (List ℕ)) : Type 0 where
 
 -- the writer that has the units' places; or the first refusal
 abbrev pub PlacesAll : Settings → List (List ℕ) → Result OpenWriter Refusal → Type 0
-PlacesAll s units answer =
-    MatchResult answer (λ w. (first_refusal (making_complaints s units) ≡ None) × (w.settings ≡ s) × HasPlaces w units)
-    (λ refusal. first_refusal (making_complaints s units) ≡ Some refusal)
+PlacesAll s units answer = Answers (making_complaints s units) (λ w. (w.settings ≡ s) × HasPlaces w units) answer

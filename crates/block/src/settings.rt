@@ -1,5 +1,6 @@
 // What a super frame is made with: the subchannel index and the parameters.
-ghost use Rattle.std.specs.Prelude.{◌≡◌, ◌≤◌, true, IfOk, MatchResult, Some, None};
+ghost use Rattle.std.specs.Prelude.{◌≡◌, ◌≤◌, true};
+ghost use Rattle.gf.specs.Refusals.{Answers};
 ghost use Rattle.block.specs.Layouts.{sendable};
 
 use super::parameters::Parameters;
@@ -23,13 +24,11 @@ fn is_sendable(parameters: &Parameters) -> bool
 }
 
 impl Settings {
-    ghost use Rattle.block.specs.Headers.{first_refusal};
     ghost use Rattle.block.specs.SuperFrames.{size_of, parameters_of, parameter_byte, settings_complaints};
 
     // Refuses a size that is not 1 to 24, and then parameters that no header can say.
     pub fn new(size: usize, parameters: Parameters) -> Result<Settings, Refusal>
-        ensures same { IfOk result (λ s. (size_of s ≡ size) × (parameters_of s ≡ parameters)) }
-        ensures outcome { MatchResult result (λ _. first_refusal (settings_complaints size parameters) ≡ None) (λ refusal. first_refusal (settings_complaints size parameters) ≡ Some refusal) }
+        ensures { Answers (settings_complaints size parameters) (λ s. (size_of s ≡ size) × (parameters_of s ≡ parameters)) result }
     {
         if !(1..=24).contains(&size) {
             return Err(Refusal::Size);

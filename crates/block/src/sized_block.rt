@@ -1,8 +1,10 @@
 // A block whose size and length are right, and its header.
-ghost use Rattle.std.specs.Prelude.{◌≡◌, ◌*◌, ◌≤◌, ◌==◌, ◌≢◌, length, take, drop, IfOk, MatchResult, Ok};
+ghost use Rattle.std.specs.Prelude.{◌≡◌, ◌*◌, ◌≤◌, ◌==◌, ◌≢◌, [], length, take, drop, MatchResult};
+ghost use Rattle.gf.specs.Refusals.{Answers};
 ghost use Rattle.block.specs.Checks.{fire_word};
+ghost use Rattle.block.specs.Headers.{of_block};
 ghost use Rattle.block.specs.Layouts.{layout};
-ghost use Rattle.block.specs.Stages.{laid, opened, blocked};
+ghost use Rattle.block.specs.Stages.{laid, opened};
 
 use super::checks::fire_word;
 use super::fault::HeaderFault;
@@ -44,8 +46,7 @@ pub(crate) struct SizedBlock<'a> {
 impl<'a> SizedBlock<'a> {
     // The block, if its size is 1 to 24, and it has 120 times as many bytes.
     pub(crate) fn new(size: usize, bytes: &'a [u8]) -> Result<SizedBlock<'a>, Refusal>
-        ensures same { IfOk result (λ block. (block.size ≡ size) × (block.bytes.now ≡ bytes.now)) }
-        ensures outcome { MatchResult result (λ _. blocked size bytes.now ≡ Ok tt) (λ refusal. blocked size bytes.now ≡ Err refusal) }
+        ensures { Answers (of_block size bytes.now []) (λ block. (block.size ≡ size) × (block.bytes.now ≡ bytes.now)) result }
     {
         if !(1..=24).contains(&size) {
             return Err(Refusal::Size);

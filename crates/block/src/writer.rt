@@ -1,7 +1,7 @@
 // Writing a super frame: units are added one behind another, then it is sealed, then its logical frames are handed out.
-ghost use Rattle.std.specs.Prelude.{◌≡◌, ◌+◌, ◌-◌, ◌*◌, ◌<◌, ◌≤◌, ◌++◌, ◌==◌, map, length, take, drop, slice_index, MatchResult, Ok, Err, Some, None};
+ghost use Rattle.std.specs.Prelude.{◌≡◌, ◌+◌, ◌-◌, ◌*◌, ◌<◌, ◌≤◌, ◌++◌, ◌==◌, map, length, take, drop, slice_index, MatchResult, Ok, Err};
+ghost use Rattle.gf.specs.Refusals.{Answers, Performs};
 ghost use Rattle.block.specs.Checks.{fire_word};
-ghost use Rattle.block.specs.Headers.{first_refusal};
 ghost use Rattle.block.specs.Places.{Placed, units_in};
 ghost use Rattle.block.specs.SuperFrames.{layout_for, superframe, two_bytes};
 
@@ -59,9 +59,7 @@ impl OpenWriter {
 
     // Makes room for a unit of so many bytes, and answers where it starts.
     fn reserve(&mut self, length: usize) -> Result<usize, Refusal>
-        ensures { MatchResult result
-            (λ start. (first_refusal (add_complaints self.old length) ≡ None) × ((start ≡ slice_index self.old.starts self.old.added) × OneMore self.old length self.new))
-            (λ refusal. (first_refusal (add_complaints self.old length) ≡ Some refusal) × (self.new ≡ self.old)) }
+        ensures { Performs (add_complaints self.old length) (λ start. (start ≡ slice_index self.old.starts self.old.added) × OneMore self.old length self.new) (self.new ≡ self.old) result }
     {
         let units = self.layout().units;
         if self.added >= units {
@@ -149,7 +147,7 @@ impl OpenWriter {
 
     // Whether the buffer has the length of a block, and all units are in.
     fn check_whole(&self, block: &[u8]) -> Result<(), Refusal>
-        ensures { MatchResult result (λ _. WholeAndSized self.now block.now) (λ refusal. first_refusal (sealing_complaints self.now block.now) ≡ Some refusal) }
+        ensures { Answers (sealing_complaints self.now block.now) (λ _. WholeAndSized self.now block.now) result }
     {
         check_buffer(self.settings.size(), block)?;
         if self.added < self.layout().units {

@@ -1,11 +1,12 @@
 -- The rows of a block, and what filling their checks and correcting them does.
-use Rattle.std.specs.Prelude.{◌≡◌, ℕ, ◌+◌, ◌-◌, ◌*◌, ◌<◌, ◌≤◌, cond, ◌&&◌, List, map, length, take, None, Ok, Err, Option, Result, MatchOption, MatchBool, ◌==◌, ◌≢◌, nat_le, is_none, slice_index, slice_index_or, count_by, position}
+use Rattle.std.specs.Prelude.{◌≡◌, ℕ, ◌+◌, ◌-◌, ◌*◌, ◌<◌, ◌≤◌, Bool, not, List, [], ◌∷◌, map, length, take, None, Option, MatchOption, ◌≢◌, is_none, slice_index, slice_index_or, count_by, position}
 use Rattle.std.specs.List.{range_with_len}
 use Rattle.gf.specs.declared.refusal.Refusal.{Refusal}
-use Rattle.gf.specs.declared.refusal.Refusal.TheVariants.{Size, Buffer, Shape}
+use Rattle.gf.specs.declared.refusal.Refusal.TheVariants.{Shape}
 use Rattle.gf.specs.declared.gf256.Gf256.{Gf256}
 use Rattle.gf.specs.Bits.{Bits, bits}
 use Rattle.gf.specs.Fields.{gf256}
+use Rattle.gf.specs.Refusals.{of_size}
 use Rattle.codes.specs.Codewords.{code_shape, distance, Codeword, Filled, Corrected, Beyond}
 use Rattle.interleaver.specs.declared.repair.Repair.{Repair}
 
@@ -36,9 +37,8 @@ pub record OnlyRow (rows symbols written : ℕ) (word before after : List ℕ) :
   pub others : (other : ℕ) → other < rows → (other ≢ written) → row_of rows symbols after other ≡ row_of rows symbols before other
 
 -- the refusals of a layout: the number of rows is not 1 to 24, or the check code has no words of this shape
-abbrev pub layout_refusal : ℕ → ℕ → ℕ → Result Unit Refusal
-layout_refusal rows symbols checks =
-    cond (nat_le 1 rows && nat_le rows 24) (cond (code_shape gf256 symbols checks) (Ok tt) (Err Shape)) (Err Size)
+abbrev pub layout_complaints : ℕ → ℕ → ℕ → List (Bool × Refusal)
+layout_complaints rows symbols checks = of_size rows ((not (code_shape gf256 symbols checks), Shape) ∷ [])
 
 -- the elements that bytes mean
 abbrev pub elements : List ℕ → List (Bits 8)
@@ -70,11 +70,6 @@ pub record ChecksFilled (rows symbols checks : ℕ) (before after : List ℕ) : 
   pub long : length after ≡ length before
   pub data_kept : take (rows * (symbols - checks)) after ≡ take (rows * (symbols - checks)) before
   pub by_row : (i : ℕ) → i < rows → Filled gf256 (bits 8) checks (row_of rows symbols before i) (row_of rows symbols after i)
-
--- A call that works on a block refuses a buffer of another length and changes nothing; else it answers so.
-abbrev pub Sized : {A : Type 0} → ℕ → List ℕ → List ℕ → Result A Refusal → (A → Type 0) → Type 0
-Sized {A} size before after answer Done =
-    MatchBool (length before == size) ((value : A) × (answer ≡ Ok value) × Done value) ((answer ≡ Err Buffer) × (after ≡ before))
 
 -- numbers that are bytes
 abbrev pub AreBytes : List ℕ → Type 0

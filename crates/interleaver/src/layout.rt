@@ -1,6 +1,7 @@
 // Where the bytes of a block's rows stand.
-ghost use Rattle.std.specs.Prelude.{◌≡◌, ◌+◌, ◌*◌, ◌<◌, ◌≤◌, true, length, IfOk, MatchResult, Ok, Err};
+ghost use Rattle.std.specs.Prelude.{◌≡◌, ◌+◌, ◌*◌, ◌<◌, ◌≤◌, true, length};
 ghost use Rattle.gf.specs.Fields.{gf256};
+ghost use Rattle.gf.specs.Refusals.{Answers};
 ghost use Rattle.codes.specs.Codewords.{code_shape};
 
 use codes::has_shape;
@@ -22,13 +23,12 @@ pub struct RowLayout {
 }
 
 impl RowLayout {
-    ghost use Rattle.interleaver.specs.Rows.{place_of, row_of, stored, OnlyRow, layout_refusal};
+    ghost use Rattle.interleaver.specs.Rows.{place_of, row_of, stored, OnlyRow, layout_complaints};
     ghost use Rattle.interleaver.specs.Layouts.{rows_of, symbols_of, checks_of};
 
     // The layout of a block with 1 to 24 rows; the check code has to have words of so many symbols with so many checks.
     pub fn new(rows: usize, symbols: usize, checks: usize) -> Result<RowLayout, Refusal>
-        ensures same { IfOk result (λ l. (rows_of l ≡ rows) × ((symbols_of l ≡ symbols) × (checks_of l ≡ checks))) }
-        ensures outcome { MatchResult result (λ _. layout_refusal rows symbols checks ≡ Ok tt) (λ refusal. layout_refusal rows symbols checks ≡ Err refusal) }
+        ensures { Answers (layout_complaints rows symbols checks) (λ l. (rows_of l ≡ rows) × ((symbols_of l ≡ symbols) × (checks_of l ≡ checks))) result }
     {
         if !(1..=MAX_ROWS).contains(&rows) {
             return Err(Refusal::Size);

@@ -9,8 +9,8 @@ use Rattle.block.proofs.header.read_header.Goals as goal
 
 value : (c : After-header) → converted c.header.result ≡ header c.args.size c.args.block.now
 value c =
-    ap converted (c.header.ensures ∙ ap₂ opened c.in_ok-block.ensures.same.0 c.in_ok-block.ensures.same.1)
-    ∙ opened-header c.args.size c.args.block.now c.in_ok-block.ensures.outcome
+    ap converted (c.header.ensures ∙ ap₂ opened c.in_ok-block.ensures.1.0 c.in_ok-block.ensures.1.1)
+    ∙ opened-header c.args.size c.args.block.now c.in_ok-block.ensures.0
 
 pub returns-in_err-header-clause-value : goal.returns-in_err-header-clause-value
 returns-in_err-header-clause-value c =

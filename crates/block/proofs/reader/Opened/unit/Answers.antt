@@ -41,7 +41,9 @@ returns c =
     let here : unit.length ≡ get_or h.starts (c.args.n + 1) 0 - 2 - get_or h.starts c.args.n 0 = omega (arith, f) in (
       unit_refused h block c.args.n unit (present k) c.in_ok-check_buffer.ensures true
           (sym (fits k) ∙ eq-eqb c.unit_check.result c.from_be_bytes.result c.if-unit_check-from_be_bytes.false),
-      f.1,
-      c.split_at.ensures.front ∙ ap (take unit.length) (cut k) ∙ front_part block unit.place unit.length
-          ∙ ap₂ (λ (j at : ℕ). take j (drop at block)) here f.1,
+      (
+        f.1,
+        c.split_at.ensures.front ∙ ap (take unit.length) (cut k) ∙ front_part block unit.place unit.length
+            ∙ ap₂ (λ (j at : ℕ). take j (drop at block)) here f.1,
+      ),
     )

@@ -2,8 +2,8 @@ use Rattle.std.proofs.Common.{◌≡◌, ℕ, ◌≤◌, [], map, length, get_or
 use lib.ListN.{length-map}
 use Rattle.std.proofs.lemmas.List.{get_or-map}
 use Rattle.std.proofs.lemmas.Result.{err_from_is_err_and}
+use Rattle.gf.specs.Refusals.{first_refusal}
 use Rattle.block.specs.SuperFrames.{layout_for}
-use Rattle.block.specs.Headers.{first_refusal}
 use Rattle.block.specs.Writing.{add_complaints, OneMore}
 use Rattle.block.specs.WritingSteps.{PlacesAll}
 use Rattle.block.proofs.PlacingAll.{PlacedTo, placed_none, placed_more, refused_at, too_few, placed_all}
