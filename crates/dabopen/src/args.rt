@@ -1,6 +1,6 @@
 // The words of the call.
 use crate::failure::Failure;
-use crate::subchannel::SubchannelIndex;
+use programs::SubchannelIndex;
 use std::env;
 
 pub const USAGE: &str = "usage: dabopen SIZE [FILE] [--units DIR]

@@ -8,18 +8,17 @@ mod files;
 mod input;
 mod report;
 mod steps;
-mod subchannel;
 mod tally;
 
 use args::{Recording, Request, USAGE, read_request};
 use failure::Failure;
 use files::make_folder;
 use input::fill;
+use programs::{SubchannelIndex, end};
 use report::Report;
 use std::fs::File;
 use std::io::Read;
 use std::process::ExitCode;
-use subchannel::SubchannelIndex;
 
 // Opens block after block until the input ends. One block is in memory at a time.
 fn open_all<R: Read>(
@@ -69,11 +68,5 @@ fn run(rt: &HostRuntime) -> Result<(), Failure> {
 }
 
 fn main(rt: HostRuntime) -> ExitCode {
-    match run(&rt) {
-        Ok(()) => ExitCode::SUCCESS,
-        Err(failure) => {
-            let _ = eprintln!(rt; "{failure}");
-            ExitCode::FAILURE
-        }
-    }
+    end(&rt, run(&rt))
 }

@@ -2,9 +2,9 @@
 use crate::failure::Failure;
 use crate::files::write_unit;
 use crate::steps::{Correction, FoundUnit, find_unit, open_block};
-use crate::subchannel::SubchannelIndex;
 use crate::tally::Tally;
 use block::{Opened, UnitPlace};
+use programs::SubchannelIndex;
 use std::io;
 
 // Prints what the blocks of a recording hold, one after the other, and writes their good units to files where a folder is given.

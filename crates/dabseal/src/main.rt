@@ -13,6 +13,7 @@ use args::{Order, Request, USAGE, read_request};
 use failure::Failure;
 use files::{read_text, write_bytes};
 use hexadecimal::block_text;
+use programs::end;
 use sealing::make_block;
 use spec::Spec;
 use std::process::ExitCode;
@@ -48,11 +49,5 @@ fn run(rt: &HostRuntime) -> Result<(), Failure> {
 }
 
 fn main(rt: HostRuntime) -> ExitCode {
-    match run(&rt) {
-        Ok(()) => ExitCode::SUCCESS,
-        Err(failure) => {
-            let _ = eprintln!(rt; "{failure}");
-            ExitCode::FAILURE
-        }
-    }
+    end(&rt, run(&rt))
 }

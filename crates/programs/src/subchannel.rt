@@ -1,10 +1,10 @@
-// The subchannel index of a recording, which says how long its blocks are.
+// The subchannel index of a recording, which says how long its blocks and frames are.
 ghost use Rattle.std.specs.Prelude.{◌≡◌, ℕ, ◌*◌, ◌≤◌};
 
 use std::marker::Model;
 use std::str::FromStr;
 
-// The program's own type keeps the range 1 to 24, since the library takes any number and refuses what is outside.
+// The programs' own type keeps the range 1 to 24, since the library takes any number and refuses what is outside.
 #[derive(Clone, Copy)]
 pub struct SubchannelIndex(usize);
 
@@ -26,7 +26,7 @@ pub struct NoSubchannelIndex;
 impl FromStr for SubchannelIndex {
     type Err = NoSubchannelIndex;
 
-    ghost use Rattle.dabopen.specs.Subchannel.{ParsesIndex};
+    ghost use Rattle.programs.specs.Subchannel.{ParsesIndex};
 
     ghost from_str_gives = { ParsesIndex };
 
@@ -50,5 +50,12 @@ impl SubchannelIndex {
         ensures { result ≡ 120 * self }
     {
         120 * self.0
+    }
+
+    // How many bytes a logical frame has.
+    pub fn frame_length(self) -> usize
+        ensures { result ≡ 24 * self }
+    {
+        24 * self.0
     }
 }

@@ -1,2 +1,0 @@
--- What the program takes a word for.
-pub mod Subchannel

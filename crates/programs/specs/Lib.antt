@@ -1,0 +1,2 @@
+-- What the programs take a word for.
+pub mod Subchannel
