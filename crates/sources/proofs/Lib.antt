@@ -1,2 +1,4 @@
 mod Frames
 mod Joining
+mod Ordering
+mod Deciding

@@ -5,3 +5,4 @@ pub mod Recordings
 pub mod Queues
 pub mod Rings
 pub mod FrameLengths
+pub mod Runs

@@ -18,6 +18,7 @@ impl<'b> FrameQueue<'b> {
     ghost use Rattle.gf.specs.Refusals.{unless};
     ghost use Rattle.sources.specs.Frames.{frame_at, with_frame};
     ghost use Rattle.sources.specs.Queues.{queued, queue_complaints, new_queue};
+    ghost use Rattle.sources.specs.Runs.{FirstInFirstOut, Decided};
 
     // Whether the buffer is as long as a queue of this size is.
     pub fn check(size: usize, buffer: &[u8]) -> Result<(), Refusal>
@@ -32,9 +33,12 @@ impl<'b> FrameQueue<'b> {
         Ok(())
     }
 
-    // A queue in which nothing waits. Where the check refuses, it has no place, and its frames have no bytes.
+    // A queue in which nothing waits. Where the check refuses, it has no place, and its frames have no bytes. What the rules of every
+    // source come to is promised here, too.
     pub fn new(size: usize, buffer: &'b mut [u8]) -> FrameQueue<'b>
-        ensures { queued result ≡ new_queue size buffer.old }
+        ensures empty { queued result ≡ new_queue size buffer.old }
+        ensures in_order { FirstInFirstOut }
+        ensures decided { Decided }
     {
         if FrameQueue::check(size, buffer).is_err() {
             return FrameQueue {
