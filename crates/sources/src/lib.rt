@@ -4,6 +4,7 @@
 mod queue;
 mod recording;
 mod ring;
+mod size;
 mod source;
 #[cfg(test)]
 mod tests;

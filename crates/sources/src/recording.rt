@@ -1,16 +1,14 @@
 // A recording: whole frames one behind another in lent bytes.
-ghost use Rattle.std.specs.Prelude.{◌<◌};
-
-use super::source::{FRAME_BYTES, FrameSource, Next, check_length};
+use super::size::Size;
+use super::source::{FrameSource, Next, check_length};
 use gf::Refusal;
 
 // The frames of a recording that are still to come. It takes no frame in.
 #[derive(Drop, Debug)]
 pub struct Recording<'b> {
-    frame_length: usize,
+    size: Size,
     // The bytes behind the frames that were taken.
     rest: &'b [u8],
-    ghost some: { 0 < frame_length },
 }
 
 impl<'b> Recording<'b> {
@@ -20,29 +18,28 @@ impl<'b> Recording<'b> {
     pub fn new(size: usize, bytes: &'b [u8]) -> Result<Recording<'b>, Refusal>
         ensures { Records size bytes.now result }
     {
-        if !(1..=24).contains(&size) {
-            return Err(Refusal::Size);
-        }
         Ok(Recording {
-            frame_length: FRAME_BYTES * size,
+            size: Size::new(size)?,
             rest: bytes,
         })
     }
 }
 
 impl FrameSource for Recording<'_> {
+    ghost use Rattle.std.specs.Prelude.{◌*◌};
     ghost use Rattle.sources.specs.Recordings.{recorded};
     ghost use Rattle.sources.specs.FrameLengths.{each_length};
 
     ghost meaning = { recorded };
 
     fn frame_length(&self) -> usize {
-        self.frame_length
+        self.size.frame_length()
     }
 
     fn next(&mut self, buffer: &mut [u8]) -> Result<Next, Refusal> {
-        check_length(self.frame_length, buffer)?;
-        let Some((frame, rest)) = self.rest.split_at_checked(self.frame_length) else {
+        let length = self.size.frame_length();
+        check_length(length, buffer)?;
+        let Some((frame, rest)) = self.rest.split_at_checked(length) else {
             return Ok(Next::NothingWaiting);
         };
         buffer.copy_from_slice(frame);
@@ -51,9 +48,9 @@ impl FrameSource for Recording<'_> {
     }
 
     fn offer(&mut self, frame: &[u8]) -> Result<(), Refusal> {
-        check_length(self.frame_length, frame)?;
+        check_length(self.size.frame_length(), frame)?;
         Err(Refusal::Full)
     }
 
-    ghost lengths = { λ r. each_length r.frame_length r.rest.now };
+    ghost lengths = { λ r. each_length (24 * r.size) r.rest.now };
 }
