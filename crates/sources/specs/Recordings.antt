@@ -11,7 +11,7 @@ abbrev pub recording_of : ℕ → List ℕ → Source
 recording_of long bytes = record { frame_length = long; waiting = whole_frames long bytes; free = 0; gives_back = false }
 
 abbrev pub recorded : Recording → Source
-recorded r = recording_of (24 * r.size) r.rest.now
+recorded r = recording_of r.frame_length r.rest.now
 
 -- The recording has frames of 24 bytes times the size; or the size is refused.
 abbrev pub Records : ℕ → List ℕ → Result Recording Refusal → Type 0

@@ -4,7 +4,6 @@
 mod queue;
 mod recording;
 mod ring;
-mod size;
 mod source;
 #[cfg(test)]
 mod tests;

@@ -2,8 +2,7 @@
 ghost use Rattle.std.specs.Prelude.{◌≡◌, ◌/◌, ◌<◌, length};
 
 use super::ring::{PLACES, Ring};
-use super::size::Size;
-use super::source::{FrameSource, Next, check_length};
+use super::source::{FRAME_BYTES, FrameSource, Next, check_length};
 use gf::Refusal;
 
 // Frames that wait, in the order in which they were offered.
@@ -25,8 +24,10 @@ impl<'b> FrameQueue<'b> {
     pub fn check(size: usize, buffer: &[u8]) -> Result<(), Refusal>
         ensures { result ≡ unless (queue_complaints size buffer.now) tt }
     {
-        let size = Size::new(size)?;
-        if buffer.len() != PLACES * size.frame_length() {
+        if !(1..=24).contains(&size) {
+            return Err(Refusal::Size);
+        }
+        if buffer.len() != PLACES * FRAME_BYTES * size {
             return Err(Refusal::Buffer);
         }
         Ok(())

@@ -5,6 +5,9 @@ ghost use Rattle.sources.specs.Sources.{Source, Nexts, Offers};
 
 use gf::Refusal;
 
+// Bytes of a frame for each step of the subchannel index.
+pub(crate) const FRAME_BYTES: usize = 24;
+
 // What asking for the next frame found.
 #[derive(Clone, Copy, PartialEq, Eq, Debug)]
 pub enum Next {
