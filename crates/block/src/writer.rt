@@ -59,7 +59,9 @@ impl OpenWriter {
 
     // Makes room for a unit of so many bytes, and answers where it starts.
     fn reserve(&mut self, length: usize) -> Result<usize, Refusal>
-        ensures { Performs (add_complaints self.old length) (λ start. (start ≡ slice_index self.old.starts self.old.added) × OneMore self.old length self.new) (self.new ≡ self.old) result }
+        ensures { Performs (add_complaints self.old length)
+            (λ start. (start ≡ slice_index self.old.starts self.old.added) × OneMore self.old length self.new)
+            (self.new ≡ self.old) result }
     {
         let units = self.layout().units;
         if self.added >= units {

@@ -1,21 +1,23 @@
 // The words of the call.
 use crate::failure::Failure;
 use programs::SubchannelIndex;
+use sources::PLACES;
 use std::env;
 
 pub const USAGE: &str = "usage: dabframes SIZE [FILE] [--burst N] [--take N]
 
 Passes a recording of logical frames through a queue of 32 places, in bursts, and compares what comes out with what was recorded.
-Prints how many frames came out, how many were left over in the queue at the end, and how many found it full and were lost.
+Prints how many frames came, how many of them were taken out of the queue, were left over in it at the end, or found it full and
+were lost, and whether the bytes agree. The status is 1 where they do not; lost frames are no failure.
 SIZE is the subchannel index, 1 to 24: a frame has 24 times as many bytes.
-FILE has frame after frame; without it they are read from standard input.
---burst N hands in N frames at a time, 1 to 1000; 4 where it is left out, as many as a transmission frame of mode I has.
---take N takes N frames at a time, as soon as so many wait, 1 to 32; 5 where it is left out, as many as a super frame has.
+FILE has frame after frame; without it they are read from standard input, to its end.
+--burst N hands in N frames at a time, 1 to 1000; 4 where it is left out, as many as a transmission frame of mode I carries.
+--take N takes N frames out at a time, as soon as so many wait, 1 to 32; 5 where it is left out, as many as a super frame has.
 --help or -h prints this text.";
 
-// How many frames are handed in at a time, and how many are taken.
+// How many frames are handed in at a time, and how many are taken out.
 #[derive(Clone, Copy)]
-pub struct Bursts {
+pub struct Pace {
     pub burst: usize,
     pub take: usize,
 }
@@ -26,7 +28,7 @@ pub struct Order {
     pub size: SubchannelIndex,
     // Standard input where it is left out.
     pub file: Option<String>,
-    pub bursts: Bursts,
+    pub pace: Pace,
 }
 
 // What a call asks for.
@@ -38,12 +40,12 @@ pub enum Request {
 
 // An option that a number follows.
 #[derive(Clone, Copy)]
-enum Counted {
+enum NumberOption {
     Burst,
     Take,
 }
 
-impl Counted {
+impl NumberOption {
     fn name(self) -> &'static str {
         match self {
             Self::Burst => "--burst",
@@ -54,7 +56,7 @@ impl Counted {
     fn most(self) -> usize {
         match self {
             Self::Burst => 1000,
-            Self::Take => 32,
+            Self::Take => PLACES,
         }
     }
 
@@ -62,11 +64,19 @@ impl Counted {
     fn parse(self, word: String) -> Result<usize, Failure> {
         match word.as_str().parse::<usize>() {
             Ok(number) if (1..=self.most()).contains(&number) => Ok(number),
-            _ => Err(Failure::Count {
+            _ => Err(Failure::Number {
                 option: self.name(),
                 most: self.most(),
                 word,
             }),
+        }
+    }
+
+    // The option is given, and has not been given before.
+    fn give(self, given: Option<usize>) -> Result<NumberOption, Failure> {
+        match given {
+            None => Ok(self),
+            Some(_) => Err(Failure::GivenTwice(self.name())),
         }
     }
 }
@@ -77,31 +87,29 @@ pub fn read_request(rt: &HostRuntime) -> Result<Request, Failure> {
     let mut file = None;
     let mut burst = None;
     let mut take = None;
-    let mut awaited = None;
+    let mut awaited: Option<NumberOption> = None;
     for word in env::args(rt)?.skip(1) {
-        match awaited {
-            Some(Counted::Burst) => burst = Some(Counted::Burst.parse(word)?),
-            Some(Counted::Take) => take = Some(Counted::Take.parse(word)?),
-            None => match word.as_str() {
-                "--help" | "-h" => return Ok(Request::Help),
-                "--burst" if burst.is_none() => {
-                    awaited = Some(Counted::Burst);
-                    continue;
-                }
-                "--take" if take.is_none() => {
-                    awaited = Some(Counted::Take);
-                    continue;
-                }
-                option if option.starts_with('-') => return Err(Failure::UnknownOption(word)),
-                _ if size_word.is_none() => size_word = Some(word),
-                _ if file.is_none() => file = Some(word),
-                _ => return Err(Failure::Usage),
-            },
+        if let Some(option) = awaited {
+            awaited = None;
+            let number = option.parse(word)?;
+            match option {
+                NumberOption::Burst => burst = Some(number),
+                NumberOption::Take => take = Some(number),
+            }
+            continue;
         }
-        awaited = None;
+        match word.as_str() {
+            "--help" | "-h" => return Ok(Request::Help),
+            "--burst" => awaited = Some(NumberOption::Burst.give(burst)?),
+            "--take" => awaited = Some(NumberOption::Take.give(take)?),
+            option if option.starts_with('-') => return Err(Failure::UnknownOption(word)),
+            _ if size_word.is_none() => size_word = Some(word),
+            _ if file.is_none() => file = Some(word),
+            _ => return Err(Failure::Usage),
+        }
     }
     if let Some(option) = awaited {
-        return Err(Failure::NoCount(option.name()));
+        return Err(Failure::NoNumber(option.name()));
     }
     let Some(size_word) = size_word else {
         return Err(Failure::Usage);
@@ -109,9 +117,9 @@ pub fn read_request(rt: &HostRuntime) -> Result<Request, Failure> {
     let Ok(size) = size_word.as_str().parse() else {
         return Err(Failure::Size(size_word));
     };
-    let bursts = Bursts {
+    let pace = Pace {
         burst: burst.unwrap_or(4),
         take: take.unwrap_or(5),
     };
-    Ok(Request::Pass(Order { size, file, bursts }))
+    Ok(Request::Pass(Order { size, file, pace }))
 }

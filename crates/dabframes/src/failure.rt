@@ -11,19 +11,21 @@ pub enum Failure {
     Usage,
     #[error("dabframes: '{0}' is no option that can stand there\n\n{USAGE}")]
     UnknownOption(String),
-    #[error("dabframes: SIZE is a subchannel index from 1 to 24, and not '{0}'")]
-    Size(String),
-    #[error("dabframes: '{0}' has no number behind it\n\n{USAGE}")]
-    NoCount(&'static str),
+    #[error("dabframes: '{0}' is given twice")]
+    GivenTwice(&'static str),
+    #[error("dabframes: '{0}' has no number behind it")]
+    NoNumber(&'static str),
     #[error("dabframes: N of {option} is a number from 1 to {most}, and not '{word}'")]
-    Count {
+    Number {
         option: &'static str,
         most: usize,
         word: String,
     },
-    #[error("dabframes: the file '{0}' cannot be opened")]
+    #[error("dabframes: SIZE is a subchannel index from 1 to 24, and not '{0}'")]
+    Size(String),
+    #[error("dabframes: the file '{0}' cannot be read")]
     NoFile(String),
-    #[error("dabframes: a frame came out that is not as recorded")]
+    #[error("dabframes: what came out is not what was recorded")]
     Differ,
     #[error("dabframes: {0}")]
     Refused(#[from] Refusal),

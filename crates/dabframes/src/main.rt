@@ -9,22 +9,37 @@ mod tally;
 use args::{Order, Request, USAGE, read_request};
 use failure::Failure;
 use passage::pass;
-use programs::end;
-use std::fs::File;
+use programs::exit_code;
+use std::fs;
 use std::io::Read;
 use std::process::ExitCode;
 
 // All bytes of the file with this name, or of standard input.
 fn read_bytes(rt: &HostRuntime, file: Option<String>) -> Result<Vec<u8>, Failure> {
-    let mut bytes = Vec::new(rt.alloc());
     match file {
-        None => rt.stdin().read_to_end(&mut bytes)?,
-        Some(path) => match File::open(rt, path.as_str()) {
-            Ok(mut input) => input.read_to_end(&mut bytes)?,
-            Err(_) => return Err(Failure::NoFile(path)),
+        None => {
+            let mut bytes = Vec::new(rt.alloc());
+            rt.stdin().read_to_end(&mut bytes)?;
+            Ok(bytes)
+        }
+        Some(path) => match fs::read(rt, path.as_str()) {
+            Ok(bytes) => Ok(bytes),
+            Err(_) => Err(Failure::NoFile(path)),
         },
-    };
-    Ok(bytes)
+    }
+}
+
+// Passes the recording through, and prints what came of its frames.
+fn pass_recording(rt: &HostRuntime, order: Order) -> Result<(), Failure> {
+    let Order { size, file, pace } = order;
+    let bytes = read_bytes(rt, file)?;
+    let tally = pass(rt.alloc(), size, pace, &bytes)?;
+    println!(rt; "{tally}")?;
+    if tally.all_agree() {
+        Ok(())
+    } else {
+        Err(Failure::Differ)
+    }
 }
 
 fn run(rt: &HostRuntime) -> Result<(), Failure> {
@@ -33,19 +48,10 @@ fn run(rt: &HostRuntime) -> Result<(), Failure> {
             println!(rt; "{USAGE}")?;
             Ok(())
         }
-        Request::Pass(Order { size, file, bursts }) => {
-            let bytes = read_bytes(rt, file)?;
-            let tally = pass(rt.alloc(), size, bursts, &bytes)?;
-            println!(rt; "{tally}")?;
-            if tally.agree() {
-                Ok(())
-            } else {
-                Err(Failure::Differ)
-            }
-        }
+        Request::Pass(order) => pass_recording(rt, order),
     }
 }
 
 fn main(rt: HostRuntime) -> ExitCode {
-    end(&rt, run(&rt))
+    exit_code(&rt, run(&rt))
 }

@@ -1,21 +1,18 @@
 // Passing the frames of a recording through a queue.
-use crate::args::Bursts;
+use crate::args::Pace;
 use crate::failure::Failure;
 use crate::tally::Tally;
 use gf::Refusal;
 use programs::SubchannelIndex;
-use sources::{FrameQueue, FrameSource, Next, Recording};
+use sources::{FrameQueue, FrameSource, Next, PLACES, Recording};
 use std::alloc::{AllocError, Global};
 use std::collections::VecDeque;
-
-// How many places a queue has.
-const PLACES: usize = 32;
 
 // A recording that is on its way through a queue.
 #[derive(Drop)]
 struct Passage<'b, 'q> {
     recording: Recording<'b>,
-    // The bytes of the same frames, read without the recording.
+    // The bytes of the same frames, cut up without the recording.
     rest: &'b [u8],
     queue: FrameQueue<'q>,
     // The frames that wait in the queue, as they were recorded.
@@ -41,8 +38,8 @@ impl<'b, 'q> Passage<'b, 'q> {
         Ok(true)
     }
 
-    // Hands in so many frames; false where the recording ended before.
-    fn hand_in_all(&mut self, count: usize) -> Result<bool, Failure> {
+    // Hands in a burst of so many frames; false where the recording ended before.
+    fn hand_in_burst(&mut self, count: usize) -> Result<bool, Failure> {
         for _ in 0..count {
             if !self.hand_in()? {
                 return Ok(false);
@@ -61,26 +58,34 @@ impl<'b, 'q> Passage<'b, 'q> {
         Ok(true)
     }
 
-    // Takes so many frames out, and answers how many there were.
-    fn take_out_all(&mut self, count: usize) -> Result<u64, Failure> {
-        let mut taken = 0_u64;
-        for _ in 0..count {
-            if self.take_out()? {
-                taken = taken.saturating_add(1);
+    // Takes at most so many frames out, and answers how many there were.
+    fn take_out_up_to(&mut self, count: usize) -> Result<usize, Failure> {
+        for taken in 0..count {
+            if !self.take_out()? {
+                return Ok(taken);
             }
         }
-        Ok(taken)
+        Ok(count)
     }
 
     // Takes so many frames out at a time, as long as so many wait.
     fn take_out_ready(&mut self, count: usize) -> Result<(), Failure> {
+        // At most as many frames wait as there are places, so there are no more turns.
         for _ in 0..PLACES {
             if self.waiting.len() < count {
                 break;
             }
-            let came = self.take_out_all(count)?;
-            self.tally.count_came(came);
+            let taken = self.take_out_up_to(count)?;
+            self.tally.count_taken_out(taken);
         }
+        Ok(())
+    }
+
+    // Takes out what is left over in the queue.
+    fn finish(&mut self) -> Result<(), Failure> {
+        let left_over = self.take_out_up_to(PLACES)?;
+        let complete = self.rest.len() < self.frame.len() && self.waiting.is_empty();
+        self.tally.finish(left_over, complete);
         Ok(())
     }
 }
@@ -89,27 +94,29 @@ impl<'b, 'q> Passage<'b, 'q> {
 pub fn pass(
     alloc: Global,
     size: SubchannelIndex,
-    bursts: Bursts,
+    pace: Pace,
     bytes: &[u8],
 ) -> Result<Tally, Failure> {
     let frame_length = size.frame_length();
-    let mut places = vec![in alloc; 0u8; PLACES * frame_length]?;
+    let frames = bytes.len() / frame_length;
+    let mut buffer = vec![in alloc; 0u8; PLACES * frame_length]?;
+    FrameQueue::check(size.number(), &buffer)?;
     let mut passage = Passage {
         recording: Recording::new(size.number(), bytes)?,
         rest: bytes,
-        queue: FrameQueue::new(size.number(), &mut places),
+        queue: FrameQueue::new(size.number(), &mut buffer),
         waiting: VecDeque::new(alloc),
         frame: vec![in alloc; 0u8; frame_length]?,
-        tally: Tally::new(frame_length, bytes.len() % frame_length),
+        tally: Tally::new(frame_length, frames, bytes.len() % frame_length),
     };
     // There are at most as many bursts as frames.
-    for _ in 0..bytes.len() / frame_length {
-        let more = passage.hand_in_all(bursts.burst)?;
-        passage.take_out_ready(bursts.take)?;
+    for _ in 0..frames {
+        let more = passage.hand_in_burst(pace.burst)?;
+        passage.take_out_ready(pace.take)?;
         if !more {
             break;
         }
     }
-    passage.tally.left_over = passage.take_out_all(PLACES)?;
+    passage.finish()?;
     Ok(passage.tally)
 }

@@ -1,51 +1,72 @@
 // What came of the frames of a recording.
+ghost use Rattle.std.specs.Prelude.{◌≡◌, ◌≢◌, ◌+◌, ◌&&◌, ◌==◌};
+
+#[cfg(test)]
+use std::alloc::AllocError;
 use std::fmt;
 
 #[derive(Clone, Copy)]
 pub struct Tally {
     // Bytes in a frame.
-    pub frame_length: usize,
-    // Frames that were taken from the queue while the recording went on, and those that were left over in it.
-    pub came: u64,
-    pub left_over: u64,
+    frame_length: usize,
+    // Whole frames in the recording, and the bytes behind them.
+    frames: usize,
+    unfinished: usize,
+    // Frames that were taken out of the queue as soon as enough waited, and those that were left over in it at the end.
+    taken_out: usize,
+    left_over: usize,
     // Frames that found the queue full.
-    pub lost: u64,
-    // Frames that came out of the queue otherwise than they were recorded.
-    pub differing: u64,
-    // Bytes behind the last whole frame.
-    pub unfinished: usize,
+    lost: usize,
+    // Frames that came out otherwise than they were recorded.
+    differing: usize,
+    // Whether every frame was handed in, and every frame that waited came out.
+    complete: bool,
 }
 
 impl Tally {
-    pub fn new(frame_length: usize, unfinished: usize) -> Tally {
+    // Nothing has come of the frames yet.
+    pub fn new(frame_length: usize, frames: usize, unfinished: usize) -> Tally {
         Tally {
             frame_length,
-            came: 0,
+            frames,
+            unfinished,
+            taken_out: 0,
             left_over: 0,
             lost: 0,
             differing: 0,
-            unfinished,
+            complete: false,
         }
     }
 
-    // A frame that was recorded so came out of the queue so.
-    pub fn compare(&mut self, recorded: &[u8], came: &[u8]) {
-        if recorded != came {
+    // Compares a frame that came out with what was recorded, and counts it if they differ.
+    pub fn compare(&mut self, recorded: &[u8], came_out: &[u8])
+        ensures same { recorded.now ≡ came_out.now → self.new ≡ self.old }
+        ensures other { recorded.now ≢ came_out.now → self.new.differing ≢ 0 }
+    {
+        if recorded != came_out {
             self.differing = self.differing.saturating_add(1);
         }
     }
 
-    pub fn count_came(&mut self, frames: u64) {
-        self.came = self.came.saturating_add(frames);
+    pub fn count_taken_out(&mut self, frames: usize) {
+        self.taken_out = self.taken_out.saturating_add(frames);
     }
 
     pub fn count_lost(&mut self) {
         self.lost = self.lost.saturating_add(1);
     }
 
-    // Whether every frame came out as it was recorded.
-    pub fn agree(&self) -> bool {
-        self.differing == 0
+    // The recording is at its end: so many frames were left over, and that was all, or was not.
+    pub fn finish(&mut self, left_over: usize, complete: bool) {
+        self.left_over = left_over;
+        self.complete = complete;
+    }
+
+    // Whether each frame of the recording either came out as it was recorded, or was lost.
+    pub fn all_agree(&self) -> bool
+        ensures { result ≡ (self.now.differing == 0 && self.now.complete) }
+    {
+        self.differing == 0 && self.complete
     }
 }
 
@@ -53,22 +74,54 @@ impl fmt::Display for Tally {
     fn fmt<W: fmt::Write>(&self, f: &mut fmt::Formatter<W>) -> fmt::Result {
         let Tally {
             frame_length,
-            came,
+            frames,
+            unfinished,
+            taken_out,
             left_over,
             lost,
-            differing,
-            unfinished,
+            ..
         } = self;
         write!(
             f,
-            "{came} frames of {frame_length} bytes came, {left_over} left over, {lost} lost"
+            "{frames} frames of {frame_length} bytes came: {taken_out} taken out, {left_over} left over, {lost} lost"
         )?;
         if *unfinished > 0 {
             write!(f, ", {unfinished} bytes unfinished")?;
         }
-        match differing {
-            0 => write!(f, "; bytes agree"),
-            _ => write!(f, "; {differing} frames differ"),
+        let verdict = if self.all_agree() { "agree" } else { "differ" };
+        write!(f, "; bytes {verdict}")
+    }
+}
+
+#[cfg(test)]
+mod tests {
+    use super::*;
+
+    // What is printed once two frames of three bytes were compared, and a third was lost.
+    fn shown(rt: &HostRuntime, second: [u8; 3], complete: bool) -> Result<String, AllocError> {
+        let mut tally = Tally::new(3, 3, 2);
+        tally.compare(&[1, 2, 3], &[1, 2, 3]);
+        tally.compare(&[4, 5, 6], &second);
+        tally.count_lost();
+        tally.count_taken_out(1);
+        tally.finish(1, complete);
+        Ok(format!(in rt.alloc(); "{tally}")?)
+    }
+
+    #[test]
+    fn says_whether_bytes_agree(rt: HostRuntime) {
+        for (second, complete, verdict) in [
+            ([4, 5, 6], true, "agree"),
+            ([4, 5, 7], true, "differ"),
+            ([4, 5, 6], false, "differ"),
+        ] {
+            let text = shown(&rt, second, complete).expect(&rt, "there is enough memory");
+            let counts = "3 frames of 3 bytes came: 1 taken out, 1 left over, 1 lost";
+            let expected = format!(in rt.alloc(); "{counts}, 2 bytes unfinished; bytes {verdict}");
+            assert_eq!(rt;
+                text.as_str(),
+                expected.expect(&rt, "there is enough memory").as_str()
+            );
         }
     }
 }

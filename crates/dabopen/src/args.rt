@@ -15,7 +15,7 @@ block-N-unit-M.au has the bytes of unit M of block N, both counted from 0.
 
 // Which recording is opened, and what is written besides.
 #[derive(Drop)]
-pub struct Recording {
+pub struct Order {
     pub size: SubchannelIndex,
     // Standard input where it is left out.
     pub file: Option<String>,
@@ -27,7 +27,7 @@ pub struct Recording {
 #[derive(Drop)]
 pub enum Request {
     Help,
-    Open(Recording),
+    Open(Order),
 }
 
 // Reads the words of the call. Options may stand before, between and behind the other words.
@@ -61,7 +61,7 @@ pub fn read_request(rt: &HostRuntime) -> Result<Request, Failure> {
         return Err(Failure::Usage);
     }
     match size_word.as_str().parse() {
-        Ok(size) => Ok(Request::Open(Recording { size, file, units })),
+        Ok(size) => Ok(Request::Open(Order { size, file, units })),
         Err(_) => Err(Failure::Size(size_word)),
     }
 }

@@ -10,11 +10,11 @@ mod report;
 mod steps;
 mod tally;
 
-use args::{Recording, Request, USAGE, read_request};
+use args::{Order, Request, USAGE, read_request};
 use failure::Failure;
 use files::make_folder;
 use input::fill;
-use programs::{SubchannelIndex, end};
+use programs::{SubchannelIndex, exit_code};
 use report::Report;
 use std::fs::File;
 use std::io::Read;
@@ -46,8 +46,8 @@ fn open_all<R: Read>(
     Ok(())
 }
 
-fn open_recording(rt: &HostRuntime, recording: Recording) -> Result<(), Failure> {
-    let Recording { size, file, units } = recording;
+fn open_recording(rt: &HostRuntime, order: Order) -> Result<(), Failure> {
+    let Order { size, file, units } = order;
     match file {
         None => open_all(rt, size, units, &mut rt.stdin()),
         Some(path) => match File::open(rt, path.as_str()) {
@@ -63,10 +63,10 @@ fn run(rt: &HostRuntime) -> Result<(), Failure> {
             println!(rt; "{USAGE}")?;
             Ok(())
         }
-        Request::Open(recording) => open_recording(rt, recording),
+        Request::Open(order) => open_recording(rt, order),
     }
 }
 
 fn main(rt: HostRuntime) -> ExitCode {
-    end(&rt, run(&rt))
+    exit_code(&rt, run(&rt))
 }

@@ -13,7 +13,7 @@ use args::{Order, Request, USAGE, read_request};
 use failure::Failure;
 use files::{read_text, write_bytes};
 use hexadecimal::block_text;
-use programs::end;
+use programs::exit_code;
 use sealing::make_block;
 use spec::Spec;
 use std::process::ExitCode;
@@ -49,5 +49,5 @@ fn run(rt: &HostRuntime) -> Result<(), Failure> {
 }
 
 fn main(rt: HostRuntime) -> ExitCode {
-    end(&rt, run(&rt))
+    exit_code(&rt, run(&rt))
 }

@@ -45,7 +45,7 @@ display r =
     codes "refused " ++ (decimal (entry r).number ++ (codes " " ++ ((entry r).word ++ (codes ", layer " ++ (decimal (rank (entry r).layer)
     ++ (codes ", place " ++ decimal (entry r).place))))))
 
--- the value, unless the condition of a refusal holds: then the first such
+-- the first refusal whose condition holds, or else the value
 abbrev pub unless : {A : Type 0} → List (Bool × Refusal) → A → Result A Refusal
 unless [] value = Ok value
 unless (c ∷ cs) value = cond c.0 (Err c.1) (unless cs value)
@@ -60,7 +60,7 @@ abbrev pub Answers : {A : Type 0} → List (Bool × Refusal) → (A → Type 0) 
 Answers complaints Right answer =
     MatchResult answer (λ value. (first_refusal complaints ≡ None) × Right value) (λ refusal. first_refusal complaints ≡ Some refusal)
 
--- The same of a call that changes something: where it refuses, nothing is changed.
+-- As `Answers`, of a call that changes something: a refusal changes nothing.
 abbrev pub Performs : {A : Type 0} → List (Bool × Refusal) → (A → Type 0) → Type 0 → Result A Refusal → Type 0
 Performs complaints Done Unchanged answer =
     MatchResult answer (λ value. (first_refusal complaints ≡ None) × Done value)

@@ -17,7 +17,7 @@ symbols_of l = l.symbols
 abbrev pub checks_of : RowLayout → ℕ
 checks_of l = l.checks
 
--- the refusal of every call that works on a block: the buffer has another length
+-- the refusal of every call that works on a block: the buffer has not so many rows of so many bytes
 abbrev pub block_complaints : RowLayout → List ℕ → List (Bool × Refusal)
 block_complaints l block = (not (length block == l.rows * l.symbols), Buffer) ∷ []
 

@@ -1,2 +1,2 @@
--- What the programs take a word for.
+-- Which words name a subchannel index.
 pub mod Subchannel

@@ -1,12 +1,13 @@
 -- What a frame source means, and what its calls answer.
 use Rattle.std.specs.Prelude.{◌≡◌, ℕ, ◌+◌, ◌-◌, Bool, cond, not, List, [], ◌∷◌, ◌++◌, length, drop, Result, ◌==◌}
+use Rattle.std.specs.List.{All}
 use Rattle.gf.specs.declared.refusal.Refusal.{Refusal}
 use Rattle.gf.specs.declared.refusal.Refusal.TheVariants.{FrameLength, Full}
 use Rattle.gf.specs.Refusals.{Performs}
 use Rattle.sources.specs.declared.source.Next.{Next}
 use Rattle.sources.specs.declared.source.Next.TheVariants.{Frame, NothingWaiting}
 
--- A source, as its callers know it. No call changes the first and the last.
+-- A source, as its callers know it. No call changes its frame length, nor whether it gives places back.
 pub record Source : Type 0 where
   -- bytes in each frame
   pub frame_length : ℕ
@@ -14,40 +15,49 @@ pub record Source : Type 0 where
   pub waiting : List (List ℕ)
   -- how many more frames find a place
   pub free : ℕ
-  -- whether a frame that is taken leaves its place free
+  -- whether a frame that is taken gives its place back
   pub gives_back : Bool
 
--- the source without the frame in front
-abbrev pub taken : Source → Source
-taken s = record {
+-- Each frame that waits has the frame length.
+abbrev pub FramesFit : Source → Type 0
+FramesFit s = All (λ frame. length frame ≡ s.frame_length) s.waiting
+
+-- the source once the frame in front is taken; one more place is free where it gives places back
+abbrev pub without_first : Source → Source
+without_first s = record {
   frame_length = s.frame_length;
   waiting = drop 1 s.waiting;
   free = cond s.gives_back (s.free + 1) s.free;
   gives_back = s.gives_back;
 }
 
--- the source with one more frame behind the others
-abbrev pub joined : Source → List ℕ → Source
-joined s frame = record {
+-- the source with one more frame behind the others, and one place fewer free
+abbrev pub with_last : Source → List ℕ → Source
+with_last s frame = record {
   frame_length = s.frame_length;
   waiting = s.waiting ++ frame ∷ [];
   free = s.free - 1;
   gives_back = s.gives_back;
 }
 
--- the refusal of a call that is lent the bytes of one frame: they have another length; then others
-abbrev pub of_frame : Source → List ℕ → List (Bool × Refusal) → List (Bool × Refusal)
-of_frame s bytes others = (not (length bytes == s.frame_length), FrameLength) ∷ others
+-- the refusal of every call that is lent the bytes of one frame: they have not its length; then others
+abbrev pub of_frame : ℕ → List ℕ → List (Bool × Refusal) → List (Bool × Refusal)
+of_frame frame_length bytes others = (not (length bytes == frame_length), FrameLength) ∷ others
 
--- A frame: it was in front, it is taken away, and the buffer holds it. Or none: then none waits, and nothing is changed.
+-- A frame was found: it was in front, the buffer is filled with it, and it is taken away. Or none was: none waits, and nothing is changed.
 abbrev pub Finds : Source → List ℕ → Source → List ℕ → Next → Type 0
-Finds s before after buffer Frame = (s.waiting ≡ buffer ∷ (taken s).waiting) × (after ≡ taken s)
-Finds s before after buffer NothingWaiting = (s.waiting ≡ []) × (after ≡ s) × (buffer ≡ before)
+Finds s lent after filled Frame = (s.waiting ≡ filled ∷ (without_first s).waiting) × (after ≡ without_first s)
+Finds s lent after filled NothingWaiting = (s.waiting ≡ []) × (after ≡ s) × (filled ≡ lent)
 
--- The next frame is asked for; or the buffer has another length, and nothing is changed.
-abbrev pub Nexts : Source → List ℕ → Source → List ℕ → Result Next Refusal → Type 0
-Nexts s before after buffer answer = Performs (of_frame s before []) (Finds s before after buffer) ((after ≡ s) × (buffer ≡ before)) answer
+-- The next frame is taken, if there is one; or the buffer that is lent for it has another length, and nothing is changed.
+abbrev pub TakesNext : Source → List ℕ → Source → List ℕ → Result Next Refusal → Type 0
+TakesNext s lent after filled answer =
+    Performs (of_frame s.frame_length lent []) (Finds s lent after filled) ((after ≡ s) × (filled ≡ lent)) answer
 
--- The frame joins those that wait; or it has another length, or there is no place for it, and nothing is changed.
+-- the refusals of offering a frame, each with its condition: it has another length; or no place is free
+abbrev pub offer_complaints : Source → List ℕ → List (Bool × Refusal)
+offer_complaints s frame = of_frame s.frame_length frame ((s.free == 0, Full) ∷ [])
+
+-- The frame waits behind the others; or the first refusal is answered, and nothing is changed.
 abbrev pub Offers : Source → List ℕ → Source → Result Unit Refusal → Type 0
-Offers s frame after answer = Performs (of_frame s frame ((s.free == 0, Full) ∷ [])) (λ _. after ≡ joined s frame) (after ≡ s) answer
+Offers s frame after answer = Performs (offer_complaints s frame) (λ _. after ≡ with_last s frame) (after ≡ s) answer

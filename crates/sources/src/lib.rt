@@ -10,4 +10,5 @@ mod tests;
 
 pub use queue::FrameQueue;
 pub use recording::Recording;
+pub use ring::PLACES;
 pub use source::{FrameSource, Next};

@@ -2,7 +2,7 @@
 ghost use Rattle.std.specs.Prelude.{◌≡◌, ◌/◌, ◌<◌, length};
 
 use super::ring::{PLACES, Ring};
-use super::source::{FRAME_BYTES, FrameSource, Next, check_length};
+use super::source::{FrameSource, Next, check_length, frame_length_of};
 use gf::Refusal;
 
 // Frames that wait, in the order in which they were offered.
@@ -17,28 +17,25 @@ pub struct FrameQueue<'b> {
 impl<'b> FrameQueue<'b> {
     ghost use Rattle.gf.specs.Refusals.{unless};
     ghost use Rattle.sources.specs.Frames.{frame_at, with_frame};
-    ghost use Rattle.sources.specs.Queues.{queued, queue_complaints, new_queue};
-    ghost use Rattle.sources.specs.Runs.{FirstInFirstOut, Decided};
+    ghost use Rattle.sources.specs.Queues.{source_of_queue, queue_complaints, new_queue};
+    ghost use Rattle.sources.specs.Runs.{FirstInFirstOut, Determined};
 
-    // Whether the buffer is as long as a queue of this size is.
+    // Refuses a size that is not 1 to 24, and then a buffer that has not 768 bytes times the size.
     pub fn check(size: usize, buffer: &[u8]) -> Result<(), Refusal>
         ensures { result ≡ unless (queue_complaints size buffer.now) tt }
     {
-        if !(1..=24).contains(&size) {
-            return Err(Refusal::Size);
-        }
-        if buffer.len() != PLACES * FRAME_BYTES * size {
+        if buffer.len() != PLACES * frame_length_of(size)? {
             return Err(Refusal::Buffer);
         }
         Ok(())
     }
 
-    // A queue in which nothing waits. Where the check refuses, it has no place, and its frames have no bytes. What the rules of every
-    // source come to is promised here, too.
+    // A queue in which nothing waits. It is made in any case: where the check refuses, it has no place, and its frames have no bytes.
+    // What the rules of every source come to is promised here, too.
     pub fn new(size: usize, buffer: &'b mut [u8]) -> FrameQueue<'b>
-        ensures empty { queued result ≡ new_queue size buffer.old }
+        ensures empty { ⟦<FrameQueue<'b> as FrameSource>⟧.meaning result ≡ new_queue size buffer.old }
         ensures in_order { FirstInFirstOut }
-        ensures decided { Decided }
+        ensures determined { Determined }
     {
         if FrameQueue::check(size, buffer).is_err() {
             return FrameQueue {
@@ -75,10 +72,10 @@ impl<'b> FrameQueue<'b> {
 }
 
 impl FrameSource for FrameQueue<'_> {
-    ghost use Rattle.sources.specs.Queues.{queued};
+    ghost use Rattle.sources.specs.Queues.{source_of_queue};
     ghost use Rattle.sources.specs.FrameLengths.{each_ring_length};
 
-    ghost meaning = { queued };
+    ghost meaning = { source_of_queue };
 
     fn frame_length(&self) -> usize {
         self.buffer.len() / PLACES
@@ -95,12 +92,12 @@ impl FrameSource for FrameQueue<'_> {
 
     fn offer(&mut self, frame: &[u8]) -> Result<(), Refusal> {
         check_length(self.frame_length(), frame)?;
-        let Some(place) = self.ring.take_next() else {
+        let Some(place) = self.ring.occupy_next() else {
             return Err(Refusal::Full);
         };
         self.write(place, frame);
         Ok(())
     }
 
-    ghost lengths = { λ q. each_ring_length q.ring.first q.ring.taken q.buffer.now };
+    ghost lengths = { λ q. each_ring_length q.ring.first q.ring.occupied q.buffer.now };
 }

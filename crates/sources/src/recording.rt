@@ -1,8 +1,8 @@
 // A recording: whole frames one behind another in lent bytes.
-use super::source::{FRAME_BYTES, FrameSource, Next, check_length};
+use super::source::{FrameSource, Next, check_length, frame_length_of};
 use gf::Refusal;
 
-// The frames of a recording that are still to come. It takes no frame in.
+// The frames of a recording that are still to come. None can be put in.
 #[derive(Drop, Debug)]
 pub struct Recording<'b> {
     frame_length: usize,
@@ -11,27 +11,26 @@ pub struct Recording<'b> {
 }
 
 impl<'b> Recording<'b> {
-    ghost use Rattle.sources.specs.Recordings.{Records};
+    ghost use Rattle.std.specs.Prelude.{◌≡◌, ◌*◌, []};
+    ghost use Rattle.gf.specs.Refusals.{Answers, of_size};
+    ghost use Rattle.sources.specs.Recordings.{recording_source};
 
-    // The frames of this size, 1 to 24, that the bytes hold whole. What stands behind the last one is left out.
+    // The whole frames in these bytes, for a subchannel index of 1 to 24. An unfinished last one is left out.
     pub fn new(size: usize, bytes: &'b [u8]) -> Result<Recording<'b>, Refusal>
-        ensures { Records size bytes.now result }
+        ensures { Answers (of_size size []) (λ recording. ⟦<Recording<'b> as FrameSource>⟧.meaning recording ≡ recording_source (24 * size) bytes.now) result }
     {
-        if !(1..=24).contains(&size) {
-            return Err(Refusal::Size);
-        }
         Ok(Recording {
-            frame_length: FRAME_BYTES * size,
+            frame_length: frame_length_of(size)?,
             rest: bytes,
         })
     }
 }
 
 impl FrameSource for Recording<'_> {
-    ghost use Rattle.sources.specs.Recordings.{recorded};
+    ghost use Rattle.sources.specs.Recordings.{source_of_recording};
     ghost use Rattle.sources.specs.FrameLengths.{each_length};
 
-    ghost meaning = { recorded };
+    ghost meaning = { source_of_recording };
 
     fn frame_length(&self) -> usize {
         self.frame_length
@@ -40,7 +39,7 @@ impl FrameSource for Recording<'_> {
     fn next(&mut self, buffer: &mut [u8]) -> Result<Next, Refusal> {
         check_length(self.frame_length, buffer)?;
         match self.rest.split_at_checked(self.frame_length) {
-            // That frames have bytes is tested here, since a struct with a reference keeps no facts.
+            // No frame is empty. That is tested here, since a ghost field beside a reference would not let every caller hold a recording.
             Some((frame, rest)) if !frame.is_empty() => {
                 buffer.copy_from_slice(frame);
                 self.rest = rest;

@@ -7,27 +7,25 @@ fn frame(number: usize) -> [u8; 24] {
     [(number % 251) as u8; 24]
 }
 
-// Takes the next frame, of size 1.
-fn take<S: FrameSource>(source: &mut S) -> Option<[u8; 24]> {
+// Asks for the next frame, of size 1, and answers what the buffer holds then: 255 throughout where nothing is written.
+fn take<S: FrameSource>(source: &mut S) -> (Result<Next, Refusal>, [u8; 24]) {
     let mut buffer = [255; 24];
-    match source.next(&mut buffer) {
-        Ok(Next::Frame) => Some(buffer),
-        _ => None,
-    }
+    let answer = source.next(&mut buffer);
+    (answer, buffer)
 }
 
 #[test]
 fn sizes(rt: HostRuntime) {
     let bytes = [0; 24 * 768];
-    for (size, recorded, checked) in [
+    for (size, frame_length, checked) in [
         (0, Err(Refusal::Size), Err(Refusal::Size)),
         (1, Ok(24), Err(Refusal::Buffer)),
         (24, Ok(576), Ok(())),
         (25, Err(Refusal::Size), Err(Refusal::Size)),
         (usize::MAX, Err(Refusal::Size), Err(Refusal::Size)),
     ] {
-        let length = Recording::new(size, &bytes).map(|recording| recording.frame_length());
-        assert_eq!(rt; length, recorded, "recording of size {size}");
+        let found = Recording::new(size, &bytes).map(|recording| recording.frame_length());
+        assert_eq!(rt; found, frame_length, "recording of size {size}");
         assert_eq!(rt;
             FrameQueue::check(size, &bytes),
             checked,
@@ -48,23 +46,25 @@ fn sizes(rt: HostRuntime) {
 }
 
 #[test]
-fn recordings_leave_out_what_is_unfinished(rt: HostRuntime) {
-    let mut bytes = [7; 46];
-    bytes[24..].fill(9);
-    for (length, frames) in [(0, 0), (23, 0), (24, 1), (25, 1), (46, 1)] {
+fn a_recording_gives_its_whole_frames(rt: HostRuntime) {
+    let mut bytes = [7; 71];
+    bytes[24..48].fill(8);
+    bytes[48..].fill(9);
+    for (length, frames) in [(0, 0), (23, 0), (24, 1), (25, 1), (46, 1), (48, 2), (71, 2)] {
         let mut recording = Recording::new(1, &bytes[..length]).expect(&rt, "the size is right");
-        for _ in 0..frames {
-            assert_eq!(rt; take(&mut recording), Some([7; 24]), "{length} bytes");
+        assert_eq!(rt; recording.next(&mut [0; 23]), Err(Refusal::FrameLength));
+        for number in 0..frames {
+            let expected = (Ok(Next::Frame), frame(7 + number));
+            assert_eq!(rt;
+                take(&mut recording),
+                expected,
+                "frame {number} of {length} bytes"
+            );
         }
-        let mut buffer = [5; 24];
-        assert_eq!(rt;
-            recording.next(&mut buffer),
-            Ok(Next::NothingWaiting),
-            "{length} bytes"
-        );
-        assert_eq!(rt; buffer, [5; 24]);
-        assert_eq!(rt; recording.offer(&buffer), Err(Refusal::Full));
-        assert_eq!(rt; recording.offer(&buffer[1..]), Err(Refusal::FrameLength));
+        let nothing = (Ok(Next::NothingWaiting), [255; 24]);
+        assert_eq!(rt; take(&mut recording), nothing, "behind {length} bytes");
+        assert_eq!(rt; recording.offer(&frame(0)), Err(Refusal::Full));
+        assert_eq!(rt; recording.offer(&[0; 25]), Err(Refusal::FrameLength));
     }
 }
 
@@ -79,13 +79,17 @@ fn a_queue_is_full_at_32(rt: HostRuntime) {
     // The length comes before the place.
     assert_eq!(rt; queue.offer(&[0; 23]), Err(Refusal::FrameLength));
     assert_eq!(rt; queue.next(&mut [0; 25]), Err(Refusal::FrameLength));
-    assert_eq!(rt; take(&mut queue), Some(frame(0)));
+    assert_eq!(rt; take(&mut queue), (Ok(Next::Frame), frame(0)));
     assert_eq!(rt; queue.offer(&frame(32)), Ok(()));
     assert_eq!(rt; queue.offer(&frame(33)), Err(Refusal::Full));
     for number in 1..33 {
-        assert_eq!(rt; take(&mut queue), Some(frame(number)), "frame {number}");
+        assert_eq!(rt;
+            take(&mut queue),
+            (Ok(Next::Frame), frame(number)),
+            "frame {number}"
+        );
     }
-    assert_eq!(rt; take(&mut queue), None);
+    assert_eq!(rt; take(&mut queue), (Ok(Next::NothingWaiting), [255; 24]));
 }
 
 #[test]
@@ -102,7 +106,11 @@ fn a_queue_goes_around_many_times(rt: HostRuntime) {
             }
         }
         for number in taken..offered.saturating_sub(turn % 5) {
-            assert_eq!(rt; take(&mut queue), Some(frame(number)), "turn {turn}");
+            assert_eq!(rt;
+                take(&mut queue),
+                (Ok(Next::Frame), frame(number)),
+                "turn {turn}"
+            );
             taken = taken.saturating_add(1);
         }
     }
@@ -110,8 +118,29 @@ fn a_queue_goes_around_many_times(rt: HostRuntime) {
 }
 
 #[test]
-fn a_queue_that_its_check_refuses_takes_nothing(rt: HostRuntime) {
-    for (size, length) in [(0, 0), (1, 767), (1, 0), (25, 25 * 768), (2, 768)] {
+fn a_queue_of_size_24(rt: HostRuntime) {
+    let mut bytes = [0; 24 * 768];
+    let mut queue = FrameQueue::new(24, &mut bytes);
+    assert_eq!(rt; queue.frame_length(), 576);
+    for number in 0..40_u8 {
+        assert_eq!(rt; queue.offer(&[number; 576]), Ok(()), "frame {number}");
+        let mut buffer = [255; 576];
+        assert_eq!(rt; queue.next(&mut buffer), Ok(Next::Frame), "frame {number}");
+        assert_eq!(rt; buffer, [number; 576]);
+    }
+}
+
+#[test]
+fn a_refused_queue_is_always_full(rt: HostRuntime) {
+    let wrong = [
+        (0, 0),
+        (1, 767),
+        (1, 0),
+        (2, 768),
+        (25, 25 * 768),
+        (usize::MAX, 768),
+    ];
+    for (size, length) in wrong {
         let mut bytes = [0; 25 * 768];
         let mut queue = FrameQueue::new(size, &mut bytes[..length]);
         assert_eq!(rt; queue.frame_length(), 0, "size {size}, {length} bytes");

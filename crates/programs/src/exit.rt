@@ -5,8 +5,8 @@ ghost use Rattle.std.specs.Process.{exit_status};
 use std::fmt::Display;
 use std::process::ExitCode;
 
-// The exit status: 0, or 1 where something went wrong, which it says on standard error.
-pub fn end<E: Display + Drop>(rt: &HostRuntime, outcome: Result<(), E>) -> ExitCode
+// Says on standard error what went wrong, if something did, and answers the exit status: 1 then, and else 0.
+pub fn exit_code<E: Display + Drop>(rt: &HostRuntime, outcome: Result<(), E>) -> ExitCode
     ensures { exit_status result ≡ cond (is_ok outcome) 0 1 }
 {
     match outcome {
