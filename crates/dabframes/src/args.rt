@@ -72,8 +72,8 @@ impl NumberOption {
         }
     }
 
-    // The option is given, and has not been given before.
-    fn give(self, given: Option<usize>) -> Result<NumberOption, Failure> {
+    // The option, if it has not been given before.
+    fn unless_given(self, given: Option<usize>) -> Result<NumberOption, Failure> {
         match given {
             None => Ok(self),
             Some(_) => Err(Failure::GivenTwice(self.name())),
@@ -100,8 +100,8 @@ pub fn read_request(rt: &HostRuntime) -> Result<Request, Failure> {
         }
         match word.as_str() {
             "--help" | "-h" => return Ok(Request::Help),
-            "--burst" => awaited = Some(NumberOption::Burst.give(burst)?),
-            "--take" => awaited = Some(NumberOption::Take.give(take)?),
+            "--burst" => awaited = Some(NumberOption::Burst.unless_given(burst)?),
+            "--take" => awaited = Some(NumberOption::Take.unless_given(take)?),
             option if option.starts_with('-') => return Err(Failure::UnknownOption(word)),
             _ if size_word.is_none() => size_word = Some(word),
             _ if file.is_none() => file = Some(word),

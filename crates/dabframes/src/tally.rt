@@ -1,5 +1,5 @@
 // What came of the frames of a recording.
-ghost use Rattle.std.specs.Prelude.{◌≡◌, ◌≢◌, ◌+◌, ◌&&◌, ◌==◌};
+ghost use Rattle.std.specs.Prelude.{◌≡◌, ◌≢◌, ◌+◌, ◌^◌, ◌<◌, false, ◌&&◌, ◌==◌};
 
 #[cfg(test)]
 use std::alloc::AllocError;
@@ -9,8 +9,7 @@ use std::fmt;
 pub struct Tally {
     // Bytes in a frame.
     frame_length: usize,
-    // Whole frames in the recording, and the bytes behind them.
-    frames: usize,
+    // Bytes behind the last whole frame of the recording.
     unfinished: usize,
     // Frames that were taken out of the queue as soon as enough waited, and those that were left over in it at the end.
     taken_out: usize,
@@ -25,10 +24,11 @@ pub struct Tally {
 
 impl Tally {
     // Nothing has come of the frames yet.
-    pub fn new(frame_length: usize, frames: usize, unfinished: usize) -> Tally {
+    pub fn new(frame_length: usize, unfinished: usize) -> Tally
+        ensures { result ≡ record { frame_length = frame_length; unfinished = unfinished; taken_out = 0; left_over = 0; lost = 0; differing = 0; complete = false } }
+    {
         Tally {
             frame_length,
-            frames,
             unfinished,
             taken_out: 0,
             left_over: 0,
@@ -48,16 +48,25 @@ impl Tally {
         }
     }
 
-    pub fn count_taken_out(&mut self, frames: usize) {
+    pub fn count_taken_out(&mut self, frames: usize)
+        ensures taken_out { self.old.taken_out + frames < 2 ^ 64 → self.new.taken_out ≡ self.old.taken_out + frames }
+        ensures others { (self.new.lost ≡ self.old.lost) × (self.new.differing ≡ self.old.differing) }
+    {
         self.taken_out = self.taken_out.saturating_add(frames);
     }
 
-    pub fn count_lost(&mut self) {
+    pub fn count_lost(&mut self)
+        ensures lost { self.old.lost + 1 < 2 ^ 64 → self.new.lost ≡ self.old.lost + 1 }
+        ensures others { (self.new.taken_out ≡ self.old.taken_out) × (self.new.differing ≡ self.old.differing) }
+    {
         self.lost = self.lost.saturating_add(1);
     }
 
     // The recording is at its end: so many frames were left over, and that was all, or was not.
-    pub fn finish(&mut self, left_over: usize, complete: bool) {
+    pub fn finish(&mut self, left_over: usize, complete: bool)
+        ensures ended { (self.new.left_over ≡ left_over) × (self.new.complete ≡ complete) }
+        ensures others { (self.new.taken_out ≡ self.old.taken_out) × (self.new.lost ≡ self.old.lost) × (self.new.differing ≡ self.old.differing) }
+    {
         self.left_over = left_over;
         self.complete = complete;
     }
@@ -74,18 +83,18 @@ impl fmt::Display for Tally {
     fn fmt<W: fmt::Write>(&self, f: &mut fmt::Formatter<W>) -> fmt::Result {
         let Tally {
             frame_length,
-            frames,
             unfinished,
             taken_out,
             left_over,
             lost,
             ..
-        } = self;
+        } = *self;
+        let frames = taken_out.saturating_add(left_over).saturating_add(lost);
         write!(
             f,
             "{frames} frames of {frame_length} bytes came: {taken_out} taken out, {left_over} left over, {lost} lost"
         )?;
-        if *unfinished > 0 {
+        if unfinished > 0 {
             write!(f, ", {unfinished} bytes unfinished")?;
         }
         let verdict = if self.all_agree() { "agree" } else { "differ" };
@@ -99,7 +108,7 @@ mod tests {
 
     // What is printed once two frames of three bytes were compared, and a third was lost.
     fn shown(rt: &HostRuntime, second: [u8; 3], complete: bool) -> Result<String, AllocError> {
-        let mut tally = Tally::new(3, 3, 2);
+        let mut tally = Tally::new(3, 2);
         tally.compare(&[1, 2, 3], &[1, 2, 3]);
         tally.compare(&[4, 5, 6], &second);
         tally.count_lost();

@@ -1,5 +1,5 @@
 -- The proofs about frames in bytes and in a ring, and about calls one after another.
-mod Frames
+pub mod Frames
 mod Joining
-mod Ordering
+pub mod Ordering
 mod Deciding

@@ -20,7 +20,7 @@ unchanged s after calls none_in none_out same = record {
 }
 
 -- an offer that is not refused has found a free place
-some_free : (s : Source) (frame : List ℕ) (after : Source) → Offers s frame after (Ok tt) → 0 < s.free
+pub some_free : (s : Source) (frame : List ℕ) (after : Source) → Offers s frame after (Ok tt) → 0 < s.free
 some_free s frame after step = let not_zero = eqb-false s.free 0 (by (length frame == s.frame_length) (s.free == 0) step.0) in grind (arith, not_zero)
   where
     by : (same full : Bool) → cond (not same) (Some FrameLength) (cond full (Some Full) None) ≡ None → full ≡ false

@@ -1,0 +1,2 @@
+-- That a passage keeps in step.
+mod Passing
