@@ -81,6 +81,17 @@ impl NumberOption {
     }
 }
 
+// The subchannel index that the word for it names.
+fn read_size(word: Option<String>) -> Result<SubchannelIndex, Failure> {
+    let Some(word) = word else {
+        return Err(Failure::Usage);
+    };
+    match word.as_str().parse() {
+        Ok(size) => Ok(size),
+        Err(_) => Err(Failure::Size(word)),
+    }
+}
+
 // Reads the words of the call. Options may stand before, between and behind the other words.
 pub fn read_request(rt: &HostRuntime) -> Result<Request, Failure> {
     let mut size_word = None;
@@ -111,15 +122,9 @@ pub fn read_request(rt: &HostRuntime) -> Result<Request, Failure> {
     if let Some(option) = awaited {
         return Err(Failure::NoNumber(option.name()));
     }
-    let Some(size_word) = size_word else {
-        return Err(Failure::Usage);
-    };
-    let Ok(size) = size_word.as_str().parse() else {
-        return Err(Failure::Size(size_word));
-    };
     let pace = Pace {
         burst: burst.unwrap_or(4),
         take: take.unwrap_or(5),
     };
-    Ok(Request::Pass(Order { size, file, pace }))
+    read_size(size_word).map(|size| Request::Pass(Order { size, file, pace }))
 }

@@ -39,7 +39,7 @@ impl FrameSource for Recording<'_> {
     fn next(&mut self, buffer: &mut [u8]) -> Result<Next, Refusal> {
         check_length(self.frame_length, buffer)?;
         match self.rest.split_at_checked(self.frame_length) {
-            // No frame is empty. That is tested here, since a ghost field beside a reference would not let every caller hold a recording.
+            // No frame is empty. That is tested here, since a struct with a reference keeps no facts of its own.
             Some((frame, rest)) if !frame.is_empty() => {
                 buffer.copy_from_slice(frame);
                 self.rest = rest;
