@@ -1,2 +1,2 @@
--- That a passage keeps in step.
+-- That a passage stays steady.
 mod Passing

@@ -1,4 +1,4 @@
--- Handing in the next frame of a recording.
+-- That handing in a frame keeps a passage steady, and how a passage begins.
 use Rattle.std.proofs.Common.{◌≡◌, ℕ, ◌+◌, ◌*◌, ◌/◌, ◌^◌, ◌<◌, ◌≤◌, min, true, List, [], ◌∷◌, ◌++◌, map, length, get_or, take, drop, Ok, sym, ap, ap₂, ◌∙◌, subst, inl, inr, arith}
 use Rattle.std.proofs.Math.Nat.{div-eq_of_lt}
 use Rattle.std.proofs.lemmas.Bool.{cases_lt}
@@ -26,14 +26,14 @@ whole_there frame_length rest frame others e = elim (cases_lt (length rest) fram
 ]
 
 -- The next frame of a recording.
-pub record Given (frame_length : ℕ) (rest frame : List ℕ) (after : Source) : Type 0 where
+record Given (frame_length : ℕ) (rest frame : List ℕ) (after : Source) : Type 0 where
   pub whole : frame_length ≤ length rest
   pub frame_is : frame ≡ take frame_length rest
   pub length_is : after.frame_length ≡ frame_length
   pub rest_is : after.waiting ≡ whole_frames frame_length (drop frame_length rest)
   pub fewer : length after.waiting + 1 ≡ length (whole_frames frame_length rest)
 
-pub given : (frame_length : ℕ) (rest lent frame : List ℕ) (recording after : Source) → 0 < frame_length → recording.frame_length ≡ frame_length
+given : (frame_length : ℕ) (rest lent frame : List ℕ) (recording after : Source) → 0 < frame_length → recording.frame_length ≡ frame_length
     → recording.waiting ≡ whole_frames frame_length rest → TakesNext recording lent after frame (Ok Frame) → Given frame_length rest frame after
 given frame_length rest lent frame recording after some long e step = record {
   whole = whole;
@@ -109,7 +109,7 @@ module _ (frame_length : ℕ) (p : Passage) (steady : Steady frame_length p) (le
           length-append (held p) (original ∷ []),
         ))
     | inr full ↦
-        let same : source_of_queue after.queue ≡ source_of_queue p.queue = full.0 ∙ ap source_of_queue queue_is in
+        let same : source_of_queue after.queue ≡ source_of_queue p.queue = full.0.1 ∙ ap source_of_queue queue_is in
         let now_held : held after ≡ held p = full.1 ∙ held_is in
         in_queue (ap (λ s. s.waiting) same ∙ steady.waiting_is ∙ sym now_held) (ap (λ s. s.frame_length) same ∙ steady.queue_length)
         (ap (λ s. s.gives_back) same ∙ steady.gives_back) (omega (arith, ap (λ s. s.free) same, steady.places, ap length now_held))
@@ -123,10 +123,10 @@ module _ (frame_length : ℕ) (p : Passage) (steady : Steady frame_length p) (le
     | inl joins ↦ omega (
       arith,
       one_fewer,
-      queues.taken_out,
+      queues.came_out,
       joins.2,
       ap (λ t. t.lost) tally_is,
-      ap (λ t. t.taken_out) tally_is,
+      ap (λ t. t.came_out) tally_is,
       ap length joins.1,
       ap length held_is,
       length-append (held middle) (original ∷ []),
@@ -135,10 +135,10 @@ module _ (frame_length : ℕ) (p : Passage) (steady : Steady frame_length p) (le
         let room : middle.tally.lost + 1 < 2 ^ 64 = omega (arith, few, one_fewer, ap (λ t. t.lost) tally_is) in omega (
           arith,
           one_fewer,
-          queues.taken_out,
+          queues.came_out,
           full.2 room,
           ap (λ t. t.lost) tally_is,
-          ap (λ t. t.taken_out) tally_is,
+          ap (λ t. t.came_out) tally_is,
           ap length full.1,
           ap length held_is,
         )
@@ -149,10 +149,10 @@ module _ (frame_length : ℕ) (p : Passage) (steady : Steady frame_length p) (le
 
 -- a passage as it begins
 module _ (size : ℕ) (bytes : List ℕ) (p : Passage) (recording : source_of_recording p.recording ≡ recording_source (24 * size) bytes)
-    (none_held : p.waiting.items ≡ []) (taken_out : p.tally.taken_out ≡ 0) (lost : p.tally.lost ≡ 0) where
-  pub all_to_come : length (to_come p) ≡ length bytes / (24 * size)
+    (none_held : p.waiting.items ≡ []) (came_out : p.tally.came_out ≡ 0) (lost : p.tally.lost ≡ 0) where
+  all_to_come : length (to_come p) ≡ length bytes / (24 * size)
   all_to_come =
       ap (λ s. length s.waiting) recording ∙ length-map-range_with_len (frame_at (24 * size) bytes) 0 (length bytes / (24 * size))
 
   pub all_accounted : accounted p ≡ length bytes / (24 * size)
-  all_accounted = omega (arith, all_to_come, taken_out, lost, ap (λ items. length (map (λ frame. frame.now) items)) none_held)
+  all_accounted = omega (arith, all_to_come, came_out, lost, ap (λ items. length (map (λ frame. frame.now) items)) none_held)

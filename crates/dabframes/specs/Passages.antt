@@ -1,5 +1,6 @@
 -- What passing a recording through a queue keeps.
-use Rattle.std.specs.Prelude.{◌≡◌, ℕ, ◌+◌, ◌<◌, ◌^◌, ◌⊎◌, Bool, true, List, [], ◌∷◌, ◌++◌, map, length, MatchBool, Ok}
+use Rattle.std.specs.Prelude.{◌≡◌, ℕ, ◌+◌, ◌<◌, ◌^◌, ◌⊎◌, Bool, true, List, [], ◌∷◌, ◌++◌, map, length, MatchBool, Ok, Err}
+use Rattle.gf.specs.declared.refusal.Refusal.TheVariants.{Full}
 use Rattle.sources.specs.Sources.{Offers}
 use Rattle.sources.specs.Frames.{whole_frames}
 use Rattle.sources.specs.Recordings.{source_of_recording}
@@ -26,19 +27,19 @@ pub record Steady (frame_length : ℕ) (p : Passage) : Type 0 where
   pub places : length (held p) + (source_of_queue p.queue).free ≡ 32
   pub agree : p.tally.differing ≡ 0
 
--- the frames that are counted as taken out or lost, that wait in the queue, or that are still to come
+-- the frames that came out or were lost, that wait in the queue, or that are still to come
 abbrev pub accounted : Passage → ℕ
-accounted p = p.tally.taken_out + p.tally.lost + length (held p) + length (to_come p)
+accounted p = p.tally.came_out + p.tally.lost + length (held p) + length (to_come p)
 
--- A frame joins the queue, or finds it full and is counted as lost.
+-- A frame joins the queue; or it is refused since the queue is full, and is counted as lost.
 pub record Enqueues (p : Passage) (original frame : List ℕ) (after : Passage) : Type 0 where
   pub recording : after.recording ≡ p.recording
   pub rest : after.rest ≡ p.rest
   pub differing : after.tally.differing ≡ p.tally.differing
-  pub taken_out : after.tally.taken_out ≡ p.tally.taken_out
+  pub came_out : after.tally.came_out ≡ p.tally.came_out
   pub queue : (Offers (source_of_queue p.queue) frame (source_of_queue after.queue) (Ok tt) × (held after ≡ held p ++ original ∷ [])
       × (after.tally.lost ≡ p.tally.lost))
-      ⊎ ((source_of_queue after.queue ≡ source_of_queue p.queue) × (held after ≡ held p)
+      ⊎ (Offers (source_of_queue p.queue) frame (source_of_queue after.queue) (Err Full) × (held after ≡ held p)
       × (p.tally.lost + 1 < 2 ^ 64 → after.tally.lost ≡ p.tally.lost + 1))
 
 -- So many frames are handed in, with `more`; or the recording has come to its end before.
@@ -47,10 +48,10 @@ pub record HandsIn (frame_length count : ℕ) (p after : Passage) (more : Bool) 
   pub accounted_is : accounted after ≡ accounted p
   pub ends : MatchBool more (length (to_come after) + count ≡ length (to_come p)) (to_come after ≡ [])
 
--- So many frames are taken out, and not yet counted.
+-- So many frames come out.
 pub record TakesOut (frame_length : ℕ) (p after : Passage) (taken : ℕ) : Type 0 where
   pub steady : Steady frame_length after
+  pub accounted_is : accounted after ≡ accounted p
   pub to_come_is : to_come after ≡ to_come p
   pub held_is : length (held after) + taken ≡ length (held p)
-  pub taken_out : after.tally.taken_out ≡ p.tally.taken_out
   pub lost : after.tally.lost ≡ p.tally.lost

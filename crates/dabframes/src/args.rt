@@ -12,7 +12,8 @@ were lost, and whether the bytes agree. The status is 1 where they do not; lost 
 SIZE is the subchannel index, 1 to 24: a frame has 24 times as many bytes.
 FILE has frame after frame; without it they are read from standard input, to its end.
 --burst N hands in N frames at a time, 1 to 1000; 4 where it is left out, as many as a transmission frame of mode I carries.
---take N takes N frames out at a time, as soon as so many wait, 1 to 32; 5 where it is left out, as many as a super frame has.
+--take N takes N frames out at a time after each burst, as long as so many wait, 1 to 32; 5 where it is left out, as many as a
+super frame has.
 --help or -h prints this text.";
 
 // How many frames are handed in at a time, and how many are taken out.

@@ -26,7 +26,7 @@ struct Passage<'b, 'q> {
 impl<'b, 'q> Passage<'b, 'q> {
     ghost use Rattle.dabframes.specs.Passages.{to_come, held, accounted, Steady, Enqueues, HandsIn, TakesOut};
 
-    // Hands a frame to the queue, which is recorded as `original`. Where the queue is full, it is lost.
+    // Hands the queue a frame that was recorded as `original`. Where the queue is full, the frame is lost.
     fn enqueue(&mut self, original: &'b [u8], frame: &[u8]) -> Result<(), Failure>
         ensures { IfOk result (λ _. Enqueues self.old original.now frame.now self.new) }
     {
@@ -74,7 +74,8 @@ impl<'b, 'q> Passage<'b, 'q> {
 
     // Takes the next frame out of the queue, and compares it; false where none waits.
     fn take_out(&mut self, frame: &mut [u8]) -> Result<bool, Failure>
-        requires { Steady (length frame.old) self.old }
+        requires steady { Steady (length frame.old) self.old }
+        requires few { accounted self.old < 2 ^ 64 }
         ensures taken { IfOk result (λ more. TakesOut (length frame.old) self.old self.new (cond more 1 0)) }
         ensures none { IfOk result (λ more. more ≡ false → held self.new ≡ []) }
     {
@@ -88,7 +89,8 @@ impl<'b, 'q> Passage<'b, 'q> {
 
     // Takes at most so many frames out, and answers how many there were.
     fn take_out_up_to(&mut self, count: usize, frame: &mut [u8]) -> Result<usize, Failure>
-        requires { Steady (length frame.old) self.old }
+        requires steady { Steady (length frame.old) self.old }
+        requires few { accounted self.old < 2 ^ 64 }
         ensures taken { IfOk result (TakesOut (length frame.old) self.old self.new) }
         ensures all { IfOk result (λ taken. (taken ≡ count) ⊎ (held self.new ≡ [])) }
     {
@@ -111,8 +113,7 @@ impl<'b, 'q> Passage<'b, 'q> {
             if self.waiting.len() < count {
                 return Ok(());
             }
-            let taken = self.take_out_up_to(count, frame)?;
-            self.tally.count_taken_out(taken);
+            self.take_out_up_to(count, frame)?;
         }
         Ok(())
     }
@@ -125,6 +126,7 @@ impl<'b, 'q> Passage<'b, 'q> {
     {
         // There are at most as many bursts as frames.
         for _ in 0..frames {
+            // One at least, or the recording would never end.
             let more = self.hand_in_burst(pace.burst.max(1), frame)?;
             self.take_out_ready(pace.take, frame)?;
             if !more {
@@ -137,6 +139,7 @@ impl<'b, 'q> Passage<'b, 'q> {
     // Takes out what is left over in the queue.
     fn finish(&mut self, frame: &mut [u8]) -> Result<(), Failure>
         requires steady { Steady (length frame.old) self.old }
+        requires few { accounted self.old < 2 ^ 64 }
         requires ended { to_come self.old ≡ [] }
         ensures { IfOk result (λ _. AllAgree (accounted self.old) self.new.tally) }
     {

@@ -11,8 +11,8 @@ pub struct Tally {
     frame_length: usize,
     // Bytes behind the last whole frame of the recording.
     unfinished: usize,
-    // Frames that were taken out of the queue as soon as enough waited, and those that were left over in it at the end.
-    taken_out: usize,
+    // Frames that came out of the queue, and how many of these were left over in it at the end.
+    came_out: usize,
     left_over: usize,
     // Frames that found the queue full.
     lost: usize,
@@ -25,12 +25,12 @@ pub struct Tally {
 impl Tally {
     // Nothing has come of the frames yet.
     pub fn new(frame_length: usize, unfinished: usize) -> Tally
-        ensures { result ≡ record { frame_length = frame_length; unfinished = unfinished; taken_out = 0; left_over = 0; lost = 0; differing = 0; complete = false } }
+        ensures { result ≡ record { frame_length = frame_length; unfinished = unfinished; came_out = 0; left_over = 0; lost = 0; differing = 0; complete = false } }
     {
         Tally {
             frame_length,
             unfinished,
-            taken_out: 0,
+            came_out: 0,
             left_over: 0,
             lost: 0,
             differing: 0,
@@ -38,26 +38,23 @@ impl Tally {
         }
     }
 
-    // Compares a frame that came out with what was recorded, and counts it if they differ.
+    // Counts a frame that came out, and compares it with what was recorded.
     pub fn compare(&mut self, recorded: &[u8], came_out: &[u8])
-        ensures same { recorded.now ≡ came_out.now → self.new ≡ self.old }
-        ensures other { recorded.now ≢ came_out.now → self.new.differing ≢ 0 }
+        ensures came_out { self.old.came_out + 1 < 2 ^ 64 → self.new.came_out ≡ self.old.came_out + 1 }
+        ensures same { recorded.now ≡ came_out.now → self.new.differing ≡ self.old.differing }
+        ensures other { recorded.now ≢ came_out.now → self.old.differing + 1 < 2 ^ 64 → self.new.differing ≡ self.old.differing + 1 }
+        ensures stays { (self.new.lost ≡ self.old.lost) × (self.new.left_over ≡ self.old.left_over) × (self.new.complete ≡ self.old.complete) }
     {
+        self.came_out = self.came_out.saturating_add(1);
         if recorded != came_out {
             self.differing = self.differing.saturating_add(1);
         }
     }
 
-    pub fn count_taken_out(&mut self, frames: usize)
-        ensures taken_out { self.old.taken_out + frames < 2 ^ 64 → self.new.taken_out ≡ self.old.taken_out + frames }
-        ensures others { (self.new.lost ≡ self.old.lost) × (self.new.differing ≡ self.old.differing) }
-    {
-        self.taken_out = self.taken_out.saturating_add(frames);
-    }
-
+    // Counts a frame that found the queue full.
     pub fn count_lost(&mut self)
         ensures lost { self.old.lost + 1 < 2 ^ 64 → self.new.lost ≡ self.old.lost + 1 }
-        ensures others { (self.new.taken_out ≡ self.old.taken_out) × (self.new.differing ≡ self.old.differing) }
+        ensures stays { (self.new.came_out ≡ self.old.came_out) × (self.new.differing ≡ self.old.differing) }
     {
         self.lost = self.lost.saturating_add(1);
     }
@@ -65,7 +62,7 @@ impl Tally {
     // The recording is at its end: so many frames were left over, and that was all, or was not.
     pub fn finish(&mut self, left_over: usize, complete: bool)
         ensures ended { (self.new.left_over ≡ left_over) × (self.new.complete ≡ complete) }
-        ensures others { (self.new.taken_out ≡ self.old.taken_out) × (self.new.lost ≡ self.old.lost) × (self.new.differing ≡ self.old.differing) }
+        ensures stays { (self.new.came_out ≡ self.old.came_out) × (self.new.lost ≡ self.old.lost) × (self.new.differing ≡ self.old.differing) }
     {
         self.left_over = left_over;
         self.complete = complete;
@@ -84,12 +81,13 @@ impl fmt::Display for Tally {
         let Tally {
             frame_length,
             unfinished,
-            taken_out,
+            came_out,
             left_over,
             lost,
             ..
         } = *self;
-        let frames = taken_out.saturating_add(left_over).saturating_add(lost);
+        let frames = came_out.saturating_add(lost);
+        let taken_out = came_out.saturating_sub(left_over);
         write!(
             f,
             "{frames} frames of {frame_length} bytes came: {taken_out} taken out, {left_over} left over, {lost} lost"
@@ -112,7 +110,6 @@ mod tests {
         tally.compare(&[1, 2, 3], &[1, 2, 3]);
         tally.compare(&[4, 5, 6], &second);
         tally.count_lost();
-        tally.count_taken_out(1);
         tally.finish(1, complete);
         Ok(format!(in rt.alloc(); "{tally}")?)
     }
