@@ -1,5 +1,5 @@
 // Passing the frames of a recording through a queue.
-ghost use Rattle.std.specs.Prelude.{◌≡◌, ◌*◌, ◌/◌, ◌^◌, ◌<◌, ◌⊎◌, false, cond, [], length, IfOk};
+ghost use Rattle.std.specs.Prelude.{◌≡◌, ◌*◌, ◌/◌, ◌^◌, ◌<◌, ◌⊎◌, cond, [], ◌∷◌, length, IfOk, MatchBool};
 ghost use Rattle.dabframes.specs.Tallies.{AllAgree};
 
 use crate::args::Pace;
@@ -77,7 +77,7 @@ impl<'b, 'q> Passage<'b, 'q> {
         requires steady { Steady (length frame.old) self.old }
         requires few { accounted self.old < 2 ^ 64 }
         ensures taken { IfOk result (λ more. TakesOut (length frame.old) self.old self.new (cond more 1 0)) }
-        ensures none { IfOk result (λ more. more ≡ false → held self.new ≡ []) }
+        ensures frame { IfOk result (λ more. MatchBool more (held self.old ≡ frame.new ∷ held self.new) (held self.new ≡ [])) }
     {
         let Next::Frame = self.queue.next(frame)? else {
             return Ok(false);
