@@ -1,5 +1,5 @@
 -- The checks of the rows of a super frame: a block whose rows are codewords is its data with all their checks behind.
-use Rattle.std.proofs.Common.{◌≡◌, ℕ, zero, suc, ◌+◌, ◌-◌, ◌*◌, ◌/◌, ◌%◌, ◌<◌, ◌≤◌, List, [], ◌∷◌, ◌++◌, map, length, get_or, take, drop, sym, refl, ap, ◌∙◌, subst, lit<, ap₂, ⊎_elim, arith, length-append, length-drop, take-append-drop, mod-lt, mod-eq_of_lt}
+use Rattle.std.proofs.Common.{◌≡◌, ℕ, ◌+◌, ◌-◌, ◌*◌, ◌/◌, ◌%◌, ◌<◌, ◌≤◌, List, ◌++◌, map, length, get_or, take, drop, sym, ap, ◌∙◌, subst, lit<, ap₂, ⊎_elim, arith, length-append, length-drop, take-append-drop, mod-lt}
 use mathlib.Core.List.{map-append}
 use lib.ListN.{length-map}
 use Rattle.std.proofs.Math.Nat.{mul-le-mul_left, mod-add-div}
@@ -7,32 +7,16 @@ use Rattle.std.proofs.lemmas.Bool.{cases_lt}
 use Rattle.std.proofs.lemmas.Nat.{div_below, div-mul-add, mod-mul-add}
 use Rattle.std.proofs.lemmas.List.{get_or_past, get_or-take, get_or-drop, get_or_append_left, get_or-append_right, take-map}
 use Rattle.std.proofs.lemmas.List.FromFn.{length-map-range_with_len, get_or-map-range_with_len, take-map-range_with_len, fill_by_all}
-use Rattle.gf.specs.Bits.{Bits, bits, number}
-use Rattle.gf.specs.Numbers.{bits-number, number_lt, number-bits}
+use Rattle.gf.specs.Bits.{bits, number}
 use Rattle.gf.specs.Fields.{gf256}
 use Rattle.gf.specs.FieldLaws.{laws256}
 use Rattle.codes.specs.Codewords.{Codeword, checks_of}
-use Rattle.codes.proofs.Lists.{cons}
 use Rattle.codes.proofs.ChecksOf.{length-checks_of, codeword-checks_of, codeword_is}
 use Rattle.interleaver.specs.Rows.{place_of, row_of, elements, ChecksFilled, AreBytes, AllCodewords}
+use Rattle.interleaver.proofs.Bytes.{number-elements, elements-number, bytes-number}
 use Rattle.interleaver.proofs.Places.{place_within, length-row_of, get_or-row_of}
 use Rattle.interleaver.proofs.Repairing.{AreBytes-row_of}
 use Rattle.block.specs.SuperFrames.{row_checks, all_row_checks}
-
--- bytes and the elements that they mean
-
-number-elements : (bytes : List ℕ) → AreBytes bytes → map (number 8) (elements bytes) ≡ bytes
-number-elements [] h = refl
-number-elements (b ∷ bytes) h = cons (number-bits 8 b ∙ mod-eq_of_lt (h 0)) (number-elements bytes (λ k. h (suc k)))
-
-elements-number : (word : List (Bits 8)) → elements (map (number 8) word) ≡ word
-elements-number [] = refl
-elements-number (u ∷ word) = cons (bits-number 8 u) (elements-number word)
-
-bytes-number : (word : List (Bits 8)) → AreBytes (map (number 8) word)
-bytes-number [] k = omega (arith, get_or_past {X = ℕ} [] k 0 (omega arith))
-bytes-number (u ∷ word) zero = number_lt 8 u
-bytes-number (u ∷ word) (suc k) = bytes-number word k
 
 -- the bytes of a row
 

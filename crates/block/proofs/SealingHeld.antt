@@ -205,6 +205,10 @@ repaired-block size block h bytes f =
     none : (i : ℕ) → i < size → wrong (row_of size 120 block i) (row_of size 120 block i) * 2 ≤ 10
     none i k = omega (arith, distance-same laws256 (elements (row_of size 120 block i)))
 
+-- a flawless block reads as its header
+pub header-flawless : (size : ℕ) (block : List ℕ) (h : Header) → AreBytes block → Flawless size block h → header size block ≡ Ok h
+header-flawless size block h bytes f = subst (λ b. header size b ≡ Ok h) (repaired-block size block h bytes f) f.legible.right
+
 pub sealing_what_was_held : SealingWhatWasHeld
 sealing_what_was_held size block h bytes f =
     subst (MakesAgain size block) (sym is)
@@ -212,7 +216,7 @@ sealing_what_was_held size block h bytes f =
     (subst (λ g. (n : ℕ) → n < unit_count g → check_fits g block n ≡ true) is f.good))
   where
     opened : header size block ≡ Ok h
-    opened = subst (λ b. header size b ≡ Ok h) (repaired-block size block h bytes f) f.legible.right
+    opened = header-flawless size block h bytes f
 
     is : h ≡ written size block
     is = (right_from size block h opened).1

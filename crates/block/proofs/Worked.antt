@@ -11,7 +11,7 @@ use Rattle.codes.specs.Polynomials as polynomials
 use Rattle.codes.proofs.Values.{value-zeros}
 use Rattle.codes.proofs.Words.{syndromes_decide, unique}
 use Rattle.interleaver.specs.Rows.{elements, row_of, AllCodewords}
-use Rattle.interleaver.proofs.Repairing.{same_byte}
+use Rattle.interleaver.proofs.Bytes.{same_byte}
 use Rattle.block.specs.Bytes.{unsigned}
 use Rattle.block.specs.Checks.{byte_bits}
 use Rattle.block.specs.Headers.{starts}

@@ -27,3 +27,4 @@ pub mod Equations
 pub mod Searching
 pub mod Corrections
 pub mod Outcomes
+pub mod NearWords

@@ -6,4 +6,6 @@ pub mod Calls
 pub mod Filling
 pub mod Counting
 pub mod Progress
+pub mod Bytes
 pub mod Repairing
+pub mod Repaired

@@ -1,34 +1,20 @@
 -- What follows from what became of the rows: a block is repaired in one way, and few wrong bytes in each row are corrected.
-use Rattle.std.proofs.Common.{◌≡◌, ℕ, ◌*◌, ◌%◌, ◌^◌, ◌<◌, ◌≤◌, true, false, List, length, get_or, Option, Some, None, is_none, sym, refl, ap, ◌∙◌, subst, ap₂, ⊎_elim, arith}
+use Rattle.std.proofs.Common.{◌≡◌, ℕ, ◌*◌, ◌<◌, ◌≤◌, true, false, List, length, get_or, Option, Some, None, is_none, sym, refl, ap, ◌∙◌, subst, ap₂, ⊎_elim, arith}
 use lib.ListN.{length-map}
 use Rattle.std.specs.List.{count_by, position}
 use Rattle.std.proofs.lemmas.Bool.{cases_lt}
-use Rattle.std.proofs.lemmas.List.{ext_get_or, get_or-map, get_or_past}
-use Rattle.gf.specs.Bits.{Bits, bits, number}
+use Rattle.std.proofs.lemmas.List.{ext_get_or, get_or_past}
+use Rattle.gf.specs.Bits.{Bits, bits}
 use Rattle.gf.specs.Fields.{gf256}
 use Rattle.gf.specs.FieldLaws.{laws256}
-use Rattle.gf.specs.Numbers.{number-bits}
 use Rattle.codes.specs.Codewords.{code_shape, distance, Corrected, Codeword}
 use Rattle.codes.proofs.Shapes.{code_sizes}
 use Rattle.codes.proofs.Words.{unique}
 use Rattle.interleaver.specs.declared.repair.Repair.{Repair}
 use Rattle.interleaver.specs.Rows.{row_of, elements, wrong, RowRepaired, AreBytes, RepairedOnce, FewWrongCorrected}
+use Rattle.interleaver.proofs.Bytes.{same_bytes}
 use Rattle.interleaver.proofs.Lists.{count_by_none, position_none}
 use Rattle.interleaver.proofs.Places.{length-row_of, get_or-row_of, rows_decide}
-
--- a byte is known by the element that it means
-pub same_byte : (a b : ℕ) → a < 256 → b < 256 → bits 8 a ≡ bits 8 b → a ≡ b
-same_byte a b h k e =
-    let m : a % 2 ^ 8 ≡ b % 2 ^ 8 = sym (number-bits 8 a) ∙ ap (number 8) e ∙ number-bits 8 b in
-    omega (arith, m)
-
-same_bytes : (u v : List ℕ) → AreBytes u → AreBytes v → elements u ≡ elements v → u ≡ v
-same_bytes u v h k e =
-    let long : length u ≡ length v = sym (length-map u (bits 8)) ∙ ap length e ∙ length-map v (bits 8) in
-    ext_get_or 0 u v long
-    (λ i b. same_byte (get_or u i 0) (get_or v i 0) (h i) (k i)
-    (sym (get_or-map (bits 8) u i 0 (bits 8 0) b) ∙ ap (λ w. get_or w i (bits 8 0)) e
-    ∙ get_or-map (bits 8) v i 0 (bits 8 0) (omega (arith, long))))
 
 pub AreBytes-row_of : (rows symbols : ℕ) (block : List ℕ) (row : ℕ) → AreBytes block → AreBytes (row_of rows symbols block row)
 AreBytes-row_of rows symbols block row h k =
@@ -70,10 +56,10 @@ row_few checks received written after (Some count) n e c near w =
     (corrected_near checks received after count (elements written) n w (length-map written (bits 8) ∙ e) c near, refl)
 
 -- what a repair answered
-abbrev answered : ℕ → ℕ → Option ℕ → Repair
+abbrev pub answered : ℕ → ℕ → Option ℕ → Repair
 answered changed rows_left lowest_left = record { changed = changed; rows_left = rows_left; lowest_left = lowest_left }
 
-same_repair : (repair repair′ : Repair) → repair.changed ≡ repair′.changed → repair.rows_left ≡ repair′.rows_left
+pub same_repair : (repair repair′ : Repair) → repair.changed ≡ repair′.changed → repair.rows_left ≡ repair′.rows_left
     → repair.lowest_left ≡ repair′.lowest_left → repair ≡ repair′
 same_repair repair repair′ a b c =
     ap₂ (λ (n m : ℕ). answered n m repair.lowest_left) a b ∙ ap (answered repair′.changed repair′.rows_left) c
@@ -82,7 +68,7 @@ module _ (rows symbols checks : ℕ) (shape : code_shape gf256 symbols checks �
   abbrev row : List ℕ → ℕ → List ℕ
   row block i = row_of rows symbols block i
 
-  short : (block : List ℕ) (i : ℕ) → length (row block i) ≤ 255
+  pub short : (block : List ℕ) (i : ℕ) → length (row block i) ≤ 255
   short block i = omega (arith, length-row_of rows symbols block i, (code_sizes gf256 symbols checks shape).3)
 
   -- blocks of bytes whose rows mean the same are the same

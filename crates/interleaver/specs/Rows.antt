@@ -92,6 +92,12 @@ RepairedOnce rows symbols checks =
     → BlockRepaired rows symbols checks before after repair → BlockRepaired rows symbols checks before after′ repair′
     → (after ≡ after′) × (repair ≡ repair′)
 
+-- Every block of bytes has a repaired one.
+abbrev pub RepairedSomehow : ℕ → ℕ → ℕ → Type 0
+RepairedSomehow rows symbols checks =
+    (before : List ℕ) → length before ≡ rows * symbols → AreBytes before
+    → (after : List ℕ) × (repair : Repair) × AreBytes after × BlockRepaired rows symbols checks before after repair
+
 -- A block that differs from one whose rows are all codewords in at most half as many bytes of each row as a row has checks is repaired to
 -- that one, with no row left, and the bytes changed are those in which it differs.
 abbrev pub FewWrongCorrected : ℕ → ℕ → ℕ → Type 0

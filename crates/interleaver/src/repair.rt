@@ -4,7 +4,7 @@ ghost use Rattle.gf.specs.Fields.{gf256};
 ghost use Rattle.gf.specs.Bits.{bits};
 ghost use Rattle.codes.specs.Polynomials.{zeros};
 ghost use Rattle.codes.specs.Codewords.{Filled};
-ghost use Rattle.interleaver.specs.Rows.{row_of, OnlyRow, OneRowAndColumn, RowsDecide, RowRepaired, RepairedOnce, FewWrongCorrected};
+ghost use Rattle.interleaver.specs.Rows.{row_of, OnlyRow, OneRowAndColumn, RowsDecide, RowRepaired, RepairedOnce, RepairedSomehow, FewWrongCorrected};
 
 use crate::layout::RowLayout;
 use codes::{MAX_SYMBOLS, WORK_SYMBOLS, correct, encode};
@@ -49,6 +49,7 @@ impl RowLayout {
         ensures places { OneRowAndColumn (rows_of self.now) (symbols_of self.now) }
         ensures rows { RowsDecide (rows_of self.now) (symbols_of self.now) }
         ensures once { RepairedOnce (rows_of self.now) (symbols_of self.now) (checks_of self.now) }
+        ensures some { RepairedSomehow (rows_of self.now) (symbols_of self.now) (checks_of self.now) }
         ensures few_wrong { FewWrongCorrected (rows_of self.now) (symbols_of self.now) (checks_of self.now) }
     {
         if block.len() != self.block_length() {

@@ -5,6 +5,7 @@ use Rattle.codes.proofs.Shapes.{code_sizes}
 use Rattle.interleaver.proofs.Places.{one_row_and_column, rows_decide}
 use Rattle.interleaver.proofs.Calls.{zero_work}
 use Rattle.interleaver.proofs.Progress.{RepairedTo, repaired_none, repaired_more, repaired_all}
+use Rattle.interleaver.proofs.Repaired.{repaired_somehow}
 use Rattle.interleaver.proofs.Repairing.{repaired_once, few_wrong_corrected}
 use Rattle.interleaver.proofs.layout.RowLayout.repair.Goals as goal
 use Rattle.interleaver.proofs.layout.RowLayout.repair.Goals.{in-Some, in-None}
@@ -18,6 +19,7 @@ returns-then-block-block_length c =
       places = one_row_and_column l.rows l.symbols;
       rows = rows_decide l.rows l.symbols;
       once = repaired_once l.rows l.symbols l.checks l.shape;
+      some = repaired_somehow l.rows l.symbols l.checks l.shape;
       few_wrong = few_wrong_corrected l.rows l.symbols l.checks l.shape;
     }
 
@@ -63,5 +65,6 @@ returns c =
       places = one_row_and_column l.rows l.symbols;
       rows = rows_decide l.rows l.symbols;
       once = repaired_once l.rows l.symbols l.checks l.shape;
+      some = repaired_somehow l.rows l.symbols l.checks l.shape;
       few_wrong = few_wrong_corrected l.rows l.symbols l.checks l.shape;
     }

@@ -1,0 +1,189 @@
+// The receiver: it finds the boundary of super frames among the frames of a source, and follows it.
+ghost use Rattle.std.specs.Prelude.{◌≡◌, ◌≤◌};
+ghost use Rattle.gf.specs.Refusals.{unless, Answers};
+ghost use Rattle.reception.specs.Receptions.{new_receiver, receiver_complaints, pull_complaints, pulled, offered, restarted, patience_set, reported};
+ghost use Rattle.reception.specs.Rules.{Rule, PullFits, patience_complaints};
+
+use crate::answers::{Pulled, Report};
+use crate::blocks::{deliver_block, deliver_clean_block};
+use crate::held::{FRAMES, HeldFrames};
+use crate::mode::Mode;
+use gf::Refusal;
+use sources::{FrameSource, Next};
+use std::marker::Model;
+
+// Misses in a row that end the lock of a new receiver.
+const PATIENCE: usize = 3;
+
+// Whether so many misses may end a lock.
+fn check_patience(patience: usize) -> Result<(), Refusal>
+    ensures { Answers (patience_complaints patience) (λ _. (1 ≤ patience) × (patience ≤ 16)) result }
+{
+    if !(1..=16).contains(&patience) {
+        return Err(Refusal::Patience);
+    }
+    Ok(())
+}
+
+// A receiver of super frames of one size.
+#[derive(Drop)]
+pub struct Receiver<S: FrameSource> {
+    source: S,
+    // The subchannel index.
+    size: usize,
+    mode: Mode,
+    held: HeldFrames,
+    misses: usize,
+    patience: usize,
+}
+
+impl<S: FrameSource> Model for Receiver<S> {
+    ghost use Rattle.std.specs.Prelude.{◌≡◌, ◌*◌, ◌<◌, ◌≤◌, length};
+    ghost use Rattle.reception.specs.Receptions.{Reception};
+
+    ghost Value = { Reception };
+
+    ghost view = { λ r. record {
+      source = S.meaning r.source;
+      size = r.size;
+      mode = r.mode;
+      held = r.held.frames;
+      misses = r.misses;
+      patience = r.patience;
+    } };
+
+    ghost invariant = { λ r. (length r.held.frames ≤ 4) × (1 ≤ r.size → r.size ≤ 24 → r.held.frame_length ≡ 24 * r.size)
+        × (r.misses < 16) × (1 ≤ r.patience) × (r.patience ≤ 16) };
+}
+
+impl<S: FrameSource> Receiver<S> {
+    // Refuses a size that is not 1 to 24, and then a source whose frames have not 24 bytes times the size.
+    pub fn check(size: usize, source: &S) -> Result<(), Refusal>
+        ensures { result ≡ unless (receiver_complaints size (S.meaning source.now)) tt }
+    {
+        if !(1..=24).contains(&size) {
+            return Err(Refusal::Size);
+        }
+        if source.frame_length() != 24 * size {
+            return Err(Refusal::FrameLength);
+        }
+        Ok(())
+    }
+
+    // A receiver that hunts. It is made in any case: where the check refuses, so does each pull.
+    pub fn new(size: usize, source: S) -> Receiver<S>
+        ensures { result ≡ new_receiver size (S.meaning source) }
+    {
+        let frame_length = if size <= 24 { 24 * size } else { 0 };
+        Receiver {
+            source,
+            size,
+            mode: Mode::Hunting,
+            held: HeldFrames::new(frame_length),
+            misses: 0,
+            patience: PATIENCE,
+        }
+    }
+
+    // Whether a pull with this buffer is refused.
+    fn check_pull(&self, buffer: &[u8]) -> Result<(), Refusal>
+        ensures { Answers (pull_complaints self.now buffer.now) (λ _. PullFits self.now buffer.now) result }
+    {
+        if !(1..=24).contains(&self.size) {
+            return Err(Refusal::Size);
+        }
+        if buffer.len() != 120 * self.size {
+            return Err(Refusal::Buffer);
+        }
+        Receiver::check(self.size, &self.source)
+    }
+
+    // Takes the next frame. Where it ends a super frame that is delivered, the repaired block is written over the buffer, which has 120
+    // bytes times the size; else the buffer stays as it is.
+    pub fn pull(&mut self, buffer: &mut [u8]) -> Result<Pulled, Refusal>
+        ensures { Rule self.old (pulled buffer.old result buffer.new) self.new }
+    {
+        self.check_pull(buffer)?;
+        let Next::Frame = self.held.take_next(&mut self.source)? else {
+            return Ok(Pulled::NothingWaiting);
+        };
+        match (self.mode, self.held.count()) {
+            (_, held) if held < FRAMES => Ok(Pulled::Held),
+            (Mode::Hunting, _) => match deliver_clean_block(self.size, self.held.bytes(), buffer) {
+                Some(delivery) => {
+                    self.mode = Mode::Locked;
+                    self.misses = 0;
+                    self.held.clear();
+                    Ok(Pulled::Delivered(delivery))
+                }
+                None => {
+                    self.held.drop_oldest();
+                    Ok(Pulled::Held)
+                }
+            },
+            (Mode::Locked, _) => match deliver_block(self.size, self.held.bytes(), buffer) {
+                Ok(delivery) => {
+                    self.misses = 0;
+                    self.held.clear();
+                    Ok(Pulled::Delivered(delivery))
+                }
+                Err(refusal) => {
+                    self.misses += 1;
+                    if self.misses < self.patience {
+                        self.held.clear();
+                    } else {
+                        self.mode = Mode::Hunting;
+                        self.misses = 0;
+                        self.held.drop_oldest();
+                    }
+                    Ok(Pulled::Missed(refusal))
+                }
+            },
+        }
+    }
+
+    // Puts a frame into the source.
+    pub fn offer(&mut self, frame: &[u8]) -> Result<(), Refusal>
+        ensures { Rule self.old (offered frame.now result) self.new }
+    {
+        self.source.offer(frame)
+    }
+
+    // Lets the frames held go, forgets the misses, and hunts.
+    pub fn reset(&mut self)
+        ensures { Rule self.old restarted self.new }
+    {
+        self.held.clear();
+        self.misses = 0;
+        self.mode = Mode::Hunting;
+    }
+
+    // From now on so many misses in a row end a lock: 1 to 16.
+    pub fn patience(&mut self, patience: usize) -> Result<(), Refusal>
+        ensures { Rule self.old (patience_set patience result) self.new }
+    {
+        check_patience(patience)?;
+        self.patience = patience;
+        Ok(())
+    }
+
+    // Where the receiver stands.
+    pub fn report(&self) -> Report
+        ensures { Rule self.now (reported result) self.now }
+    {
+        Report {
+            mode: self.mode,
+            held: self.held.count(),
+            misses: self.misses,
+            patience: self.patience,
+        }
+    }
+
+    // Gives the source back.
+    pub fn end(self) -> S
+        ensures { S.meaning result ≡ self.source }
+    {
+        let Receiver { source, .. } = self;
+        source
+    }
+}
