@@ -5,7 +5,7 @@ ghost use Rattle.block.specs.States.{header_of};
 ghost use Rattle.reception.specs.Blocks.{state_of_unit, states_of_units, Delivers, Misses, IsCleanAndLegible};
 
 use crate::answers::{Delivery, UnitState};
-use crate::held::BLOCK_BYTES;
+use crate::sizes::MAX_BLOCK_BYTES;
 use block::{Opened, Received};
 use gf::Refusal;
 
@@ -69,7 +69,7 @@ pub(crate) fn deliver_block(
     ensures { MatchResult result (λ d. Delivers size received.now d buffer.new)
         (λ refusal. Misses size received.now refusal × (buffer.new ≡ buffer.old)) }
 {
-    let mut work = [0; BLOCK_BYTES];
+    let mut work = [0; MAX_BLOCK_BYTES];
     let block = &mut work[..received.len()];
     let delivery = read_block(size, received, block)?;
     buffer.copy_from_slice(block);
@@ -87,7 +87,7 @@ pub(crate) fn deliver_clean_block(
     ensures { MatchOption result ((IsCleanAndLegible size received.now → ⊥) × (buffer.new ≡ buffer.old))
         (λ d. Delivers size received.now d buffer.new × (d.repair.rows_left ≡ 0)) }
 {
-    let mut work = [0; BLOCK_BYTES];
+    let mut work = [0; MAX_BLOCK_BYTES];
     let block = &mut work[..received.len()];
     let delivery = read_block(size, received, block).ok()?;
     if delivery.repair.rows_left > 0 {

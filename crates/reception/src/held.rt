@@ -3,22 +3,17 @@ ghost use Rattle.std.specs.Prelude.{◌≡◌, ◌*◌, ◌<◌, ◌≤◌, [], 
 ghost use Rattle.std.specs.List.{concat};
 ghost use Rattle.reception.specs.Holding.{TakesIn};
 
+use crate::sizes::{FRAMES, MAX_BLOCK_BYTES};
 use gf::Refusal;
 use sources::{FrameSource, Next};
 use std::marker::Model;
-
-// Frames in a block.
-pub(crate) const FRAMES: usize = 5;
-
-// Bytes of a block of the largest size.
-pub(crate) const BLOCK_BYTES: usize = 2880;
 
 // At most five frames of one length, the oldest first. They stand one behind another.
 #[derive(Drop, Debug)]
 pub(crate) struct HeldFrames {
     frame_length: usize,
     count: usize,
-    bytes: [u8; BLOCK_BYTES],
+    bytes: [u8; MAX_BLOCK_BYTES],
 }
 
 // Clauses see the frame length and the list of frames.
@@ -42,7 +37,7 @@ impl HeldFrames {
         HeldFrames {
             frame_length,
             count: 0,
-            bytes: [0; BLOCK_BYTES],
+            bytes: [0; MAX_BLOCK_BYTES],
         }
     }
 

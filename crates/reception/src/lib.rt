@@ -8,6 +8,7 @@ mod driving;
 mod held;
 mod mode;
 mod receiver;
+mod sizes;
 
 pub use answers::{Delivery, Pulled, Report, UnitState};
 pub use calls::{Call, Listener, Outcome};

@@ -6,20 +6,23 @@ ghost use Rattle.reception.specs.Rules.{Rule, PullFits, patience_complaints};
 
 use crate::answers::{Pulled, Report};
 use crate::blocks::{deliver_block, deliver_clean_block};
-use crate::held::{FRAMES, HeldFrames};
+use crate::held::HeldFrames;
 use crate::mode::Mode;
+use crate::sizes::{BLOCK_BYTES, FRAME_BYTES, FRAMES, MAX_SIZE};
 use gf::Refusal;
 use sources::{FrameSource, Next};
 use std::marker::Model;
 
-// Misses in a row that end the lock of a new receiver.
+// How many misses in a row end the lock of a new receiver, and of any at most.
 const PATIENCE: usize = 3;
+
+const MAX_PATIENCE: usize = 16;
 
 // Whether so many misses may end a lock.
 fn check_patience(patience: usize) -> Result<(), Refusal>
     ensures { Answers (patience_complaints patience) (λ _. (1 ≤ patience) × (patience ≤ 16)) result }
 {
-    if !(1..=16).contains(&patience) {
+    if !(1..=MAX_PATIENCE).contains(&patience) {
         return Err(Refusal::Patience);
     }
     Ok(())
@@ -61,10 +64,10 @@ impl<S: FrameSource> Receiver<S> {
     pub fn check(size: usize, source: &S) -> Result<(), Refusal>
         ensures { result ≡ unless (receiver_complaints size (S.meaning source.now)) tt }
     {
-        if !(1..=24).contains(&size) {
+        if !(1..=MAX_SIZE).contains(&size) {
             return Err(Refusal::Size);
         }
-        if source.frame_length() != 24 * size {
+        if source.frame_length() != FRAME_BYTES * size {
             return Err(Refusal::FrameLength);
         }
         Ok(())
@@ -74,7 +77,11 @@ impl<S: FrameSource> Receiver<S> {
     pub fn new(size: usize, source: S) -> Receiver<S>
         ensures { result ≡ new_receiver size (S.meaning source) }
     {
-        let frame_length = if size <= 24 { 24 * size } else { 0 };
+        let frame_length = if size <= MAX_SIZE {
+            FRAME_BYTES * size
+        } else {
+            0
+        };
         Receiver {
             source,
             size,
@@ -89,10 +96,10 @@ impl<S: FrameSource> Receiver<S> {
     fn check_pull(&self, buffer: &[u8]) -> Result<(), Refusal>
         ensures { Answers (pull_complaints self.now buffer.now) (λ _. PullFits self.now buffer.now) result }
     {
-        if !(1..=24).contains(&self.size) {
+        if !(1..=MAX_SIZE).contains(&self.size) {
             return Err(Refusal::Size);
         }
-        if buffer.len() != 120 * self.size {
+        if buffer.len() != BLOCK_BYTES * self.size {
             return Err(Refusal::Buffer);
         }
         Receiver::check(self.size, &self.source)
