@@ -3,7 +3,7 @@ use Rattle.std.proofs.Common.{◌≡◌, ℕ, zero, suc, ◌+◌, ◌-◌, ◌*�
 use Rattle.std.proofs.Math.Nat.{add-mul, one-mul}
 use Rattle.std.proofs.Math.Seq.{take-add}
 use Rattle.std.proofs.lemmas.List.{drop-take, drop-drop}
-use Rattle.std.proofs.lemmas.List.FromFn.{map-range_with_len_more}
+use Rattle.std.proofs.lemmas.List.FromFn.{map-range_with_len_more, length-map-range_with_len}
 use Rattle.std.proofs.lemmas.Slice.{between-put_mid, take-put_mid_below}
 use lib.ListN.{length-drop}
 use lib.Seq.{take-paste}
@@ -14,6 +14,7 @@ use Rattle.sources.specs.declared.source.Next.{Next}
 use Rattle.sources.specs.declared.source.Next.TheVariants.{Frame}
 use Rattle.sources.specs.Sources.{Source, without_first, TakesNext}
 use Rattle.sources.specs.Frames.{frame_at}
+use Rattle.reception.specs.Holding.{Holding, holding}
 
 module _ (frame_length : ℕ) where
   abbrev pub frames : ℕ → List ℕ → List (List ℕ)
@@ -87,6 +88,11 @@ module _ (frame_length : ℕ) where
       (ap (λ (k : ℕ). take k (copy_within bytes frame_length (suc n * frame_length) 0)) (let e : n * frame_length ≡ 0 + (suc n * frame_length - frame_length) = omega arith in e)
       ∙ take-paste bytes 0 (drop frame_length bytes) (suc n * frame_length - frame_length) (omega arith) (omega (arith, length-drop frame_length bytes))
       ∙ ap (λ (k : ℕ). take k (drop frame_length bytes)) (let e : suc n * frame_length - frame_length ≡ n * frame_length = omega arith in e))
+
+-- how many frames there are
+pub frames_counted : (frame_length count : ℕ) (bytes : List ℕ) (held : Holding) → holding frame_length count bytes ≡ held → count ≡ length held.frames
+frames_counted frame_length count bytes held is =
+    sym (length-map-range_with_len (frame_at frame_length bytes) 0 count) ∙ ap (λ (h : Holding). length h.frames) is
 
 -- the frame that a source gave was in front
 pub given : (s after : Source) (lent filled : List ℕ) (answer : Result Next Refusal) → TakesNext s lent after filled answer → answer ≡ Ok Frame

@@ -1,11 +1,9 @@
-use Rattle.std.proofs.Common.{ℕ, ◌*◌, ◌≤◌, length, sym, ap, ◌∙◌, arith}
+use Rattle.std.proofs.Common.{◌*◌, ◌≤◌, sym, ap, ap₂, ◌∙◌, arith}
 use Rattle.std.proofs.lemmas.Nat.{mul-le}
-use Rattle.std.proofs.lemmas.List.FromFn.{length-map-range_with_len}
 use lib.Seq.{length-take-le}
 use Rattle.std.specs.List.{concat}
-use Rattle.sources.specs.Frames.{frame_at}
 use Rattle.reception.specs.Holding.{Holding}
-use Rattle.reception.proofs.Framing.{concat-frames}
+use Rattle.reception.proofs.Framing.{frames_counted, concat-frames}
 use Rattle.reception.proofs.held.HeldFrames.bytes.Goals as goal
 
 pub returns : goal.returns
@@ -17,6 +15,5 @@ returns c =
       bytes = sym (concat-frames long count c.self.inside.bytes) ∙ ap (λ (held : Holding). concat held.frames) c.self.view_is;
       length =
           length-take-le _ _ (omega (arith, room, c.self.told))
-          ∙ ap (λ (n : ℕ). n * long) (sym (length-map-range_with_len (frame_at long c.self.inside.bytes) 0 count))
-          ∙ ap (λ (held : Holding). length held.frames * held.frame_length) c.self.view_is;
+          ∙ ap₂ ◌*◌ (frames_counted long count c.self.inside.bytes c.args.self.now c.self.view_is) (ap (λ (held : Holding). held.frame_length) c.self.view_is);
     }

@@ -1,8 +1,6 @@
-use Rattle.std.proofs.Common.{◌≡◌, ℕ, ◌-◌, List, drop, length, sym, ap, ◌∙◌, arith}
-use Rattle.std.proofs.lemmas.List.FromFn.{length-map-range_with_len}
-use Rattle.sources.specs.Frames.{frame_at}
+use Rattle.std.proofs.Common.{◌≡◌, ℕ, ◌-◌, List, drop, length, ap, ◌∙◌, arith}
 use Rattle.reception.specs.Holding.{Holding, holding}
-use Rattle.reception.proofs.Framing.{frames, frames_copied}
+use Rattle.reception.proofs.Framing.{frames_counted, frames, frames_copied}
 use Rattle.reception.proofs.held.HeldFrames.drop_oldest.Goals as goal
 
 pub returns : goal.returns
@@ -11,7 +9,7 @@ returns c =
     let count = c.self.inside.count in
     let bytes = c.self.inside.bytes in
     let counted : count ≡ length c.args.self.now.frames =
-    sym (length-map-range_with_len (frame_at long bytes) 0 count) ∙ ap (λ (held : Holding). length held.frames) c.self.view_is in
+    frames_counted long count bytes c.args.self.now c.self.view_is in
     ap (λ (n : ℕ). holding long n c.copy_within.new.self) (let e : count - 1 ≡ 4 = omega (arith, counted, c.requires) in e)
     ∙ ap (holding long 4) c.copy_within.ensures.after
     ∙ ap (λ (frames : List (List ℕ)). record { frame_length = long; frames = frames }) (frames_copied long 4 bytes (omega (arith, c.self.told, c.self.invariant.0)))

@@ -1,12 +1,10 @@
 use Rattle.std.proofs.Common.{◌≡◌, ℕ, ◌+◌, ◌-◌, ◌*◌, ◌≤◌, List, [], ◌∷◌, ◌++◌, length, Ok, sym, ap, ◌∙◌, subst, arith}
 use Rattle.std.proofs.lemmas.Nat.{mul-le}
 use Rattle.std.proofs.lemmas.List.Elements.{All-head}
-use Rattle.std.proofs.lemmas.List.FromFn.{length-map-range_with_len}
 use Rattle.std.specs.List.{All}
 use borrow.Rule.Slice.PartMut.{put_mid}
-use Rattle.sources.specs.Frames.{frame_at}
 use Rattle.reception.specs.Holding.{Holding, holding}
-use Rattle.reception.proofs.Framing.{frames_written, given}
+use Rattle.reception.proofs.Framing.{frames_counted, frames_written, given}
 use Rattle.reception.proofs.held.HeldFrames.take_next.Goals as goal
 
 pub returns : goal.returns
@@ -18,7 +16,7 @@ returns g c =
     let source = g.S.FrameSource.meaning c.args.source.now in
     let taken = given _ _ _ _ _ c.next.ensures (c.in_ok-next.was ∙ ap Ok c.in-Frame.is) in
     let counted : count ≡ length c.args.self.now.frames =
-    sym (length-map-range_with_len (frame_at long c.self.inside.bytes) 0 count) ∙ ap (λ (held : Holding). length held.frames) c.self.view_is in
+    frames_counted long count c.self.inside.bytes c.args.self.now c.self.view_is in
     let room : (count + 1) * long ≤ 5 * 576 = mul-le (count + 1) long 5 576 (omega (arith, counted, c.requires.few)) c.self.invariant.0 in
     let fits : length frame ≡ long =
     All-head (λ f. length f ≡ source.frame_length) frame _ (subst (All (λ f. length f ≡ source.frame_length)) taken.0 (g.met.S.FrameSource.lengths c.args.source.now))

@@ -32,11 +32,11 @@ module _ (g : Over) (c : In-Frame g) where
   fits : PullFits seen c.args.buffer.now
   fits = subst (λ (r : Reception). PullFits r c.args.buffer.now) (sym c.self.view_is) c.in_ok-check_pull.ensures.1
 
-  taken : Took seen (g.S.FrameSource.meaning c.take_next.new.source) c.take_next.new.self.frames
-  taken = took seen c.self.inside.held (g.S.FrameSource.meaning c.take_next.new.source) c.take_next.new.self c.take_next.result c.take_next.ensures (c.in_ok-take_next.was ∙ ap Ok c.in-Frame.is) refl
-
   answered : c.take_next.result ≡ Ok Frame
   answered = c.in_ok-take_next.was ∙ ap Ok c.in-Frame.is
+
+  taken : Took seen (g.S.FrameSource.meaning c.take_next.new.source) c.take_next.new.self.frames
+  taken = took seen c.self.inside.held (g.S.FrameSource.meaning c.take_next.new.source) c.take_next.new.self c.take_next.result c.take_next.ensures answered refl
 
   -- one more is held than before, and that were four at most
   counted : length c.take_next.new.self.frames ≡ length seen.held + 1
@@ -47,12 +47,22 @@ module _ (g : Over) (c : In-Frame g) where
       took_length (g.S.FrameSource.meaning c.self.inside.source) (g.S.FrameSource.meaning c.take_next.new.source) c.self.inside.held c.take_next.new.self c.take_next.result
       c.take_next.ensures answered ∙ c.self.invariant.1 fits.in_range.0 fits.in_range.1
 
-  -- where there are not fewer than five, there are five
-  five_with : 5 ≤ length c.take_next.new.self.frames → length c.take_next.new.self.frames ≡ 5
-  five_with many = omega (arith, many, counted, c.self.invariant.0)
+  -- where there are not fewer than five
+  module _ (many : 5 ≤ length c.take_next.new.self.frames) where
+    five : length c.take_next.new.self.frames ≡ 5
+    five = omega (arith, many, counted, c.self.invariant.0)
 
-  fifth : length c.take_next.new.self.frames ≡ 5 → Fifth seen
-  fifth five = sym counted ∙ five
+    fifth : Fifth seen
+    fifth = sym counted ∙ five
+
+    block_fits : (bytes : List ℕ) → length bytes ≡ length c.take_next.new.self.frames * c.take_next.new.self.frame_length
+        → (length bytes ≡ 120 * c.self.inside.size) × (length c.args.buffer.now ≡ 120 * c.self.inside.size)
+    block_fits bytes long =
+        (block_long (length bytes) (length c.take_next.new.self.frames) c.take_next.new.self.frame_length c.self.inside.size long five frame_length, fits.buffer_long)
+
+  -- the frames put together are what was received
+  block : (bytes : List ℕ) → bytes ≡ concat c.take_next.new.self.frames → bytes ≡ received seen taken.frame
+  block bytes are = are ∙ ap concat taken.held_is
 
 pub returns-in_err-check_pull : goal.returns-in_err-check_pull
 returns-in_err-check_pull g c =
@@ -70,21 +80,21 @@ returns-in_default g c =
 pub deliver_clean_block-requires-clause-long : goal.deliver_clean_block-requires-clause-long
 deliver_clean_block-requires-clause-long g c =
     let k = (goal.at.deliver_clean_block-requires-clause-long g c).In-Frame in
-    let five = five_with g k (subst (λ (n : ℕ). 5 ≤ n) c.count-held.ensures c.if-held-lt-FRAMES.false) in
-    (block_long _ (length c.take_next.new.self.frames) c.take_next.new.self.frame_length c.self.inside.size c.bytes.ensures.length five (frame_length g k), (fits g k).buffer_long)
+    let many = subst (λ (n : ℕ). 5 ≤ n) c.count-held.ensures c.if-held-lt-FRAMES.false in
+    block_fits g k many c.bytes.result.now c.bytes.ensures.length
 
 pub deliver_block-requires-clause-long : goal.deliver_block-requires-clause-long
 deliver_block-requires-clause-long g c =
     let k = (goal.at.deliver_block-requires-clause-long g c).In-Frame in
-    let five = five_with g k (subst (λ (n : ℕ). 5 ≤ n) c.count-held.ensures c.if-held-lt-FRAMES.false) in
-    (block_long _ (length c.take_next.new.self.frames) c.take_next.new.self.frame_length c.self.inside.size c.bytes-in-Locked-default.ensures.length five (frame_length g k), (fits g k).buffer_long)
+    let many = subst (λ (n : ℕ). 5 ≤ n) c.count-held.ensures c.if-held-lt-FRAMES.false in
+    block_fits g k many c.bytes-in-Locked-default.result.now c.bytes-in-Locked-default.ensures.length
 
 pub invariant_of-self-else-self : goal.invariant_of-self-else-self
 invariant_of-self-else-self g c =
     let k = (goal.at.invariant_of-self-else-self g c).In-Frame in
-    let five = five_with g k (subst (λ (n : ℕ). 5 ≤ n) c.count-held.ensures c.if-held-lt-FRAMES.false) in
+    let many = subst (λ (n : ℕ). 5 ≤ n) c.count-held.ensures c.if-held-lt-FRAMES.false in
     let dropped = c.drop_oldest-else-self.ensures in (
-      four_left _ _ (ap (λ (h : Holding). h.frames) dropped) five,
+      four_left _ _ (ap (λ (h : Holding). h.frames) dropped) (five g k many),
       (λ some few. ap (λ (h : Holding). h.frame_length) dropped ∙ frame_length g k),
       omega arith,
       c.self.invariant.3,
@@ -104,59 +114,54 @@ pub returns-in-Some : goal.returns-in-Some
 returns-in-Some g c =
     let k = (goal.at.returns-in-Some g c).In-Frame in
     let t = taken g k in
-    let five = five_with g k (subst (λ (n : ℕ). 5 ≤ n) c.count-held.ensures c.if-held-lt-FRAMES.false) in
-    let block : c.bytes.result.now ≡ received (seen g k) t.frame = c.bytes.ensures.bytes ∙ ap concat t.held_is in
+    let many = subst (λ (n : ℕ). 5 ≤ n) c.count-held.ensures c.if-held-lt-FRAMES.false in
     same_receiver c.self.view_is
     (taken_to Locked Locked [] c.clear.new.self.frames 0 _ t.source_is refl (ap (λ (h : Holding). h.frames) c.clear.ensures)
-    (finds (ready g k) t.in_front (fifth g k five) c.in-Hunting-default.is-0
-    (subst (λ (b : List ℕ). Delivers c.self.inside.size b c.in-Some.delivery c.deliver_clean_block.new.buffer) block c.in-Some.ensures.0) c.in-Some.ensures.1))
+    (finds (ready g k) t.in_front (fifth g k many) c.in-Hunting-default.is-0
+    (subst (λ (b : List ℕ). Delivers c.self.inside.size b c.in-Some.delivery c.deliver_clean_block.new.buffer) (block g k _ c.bytes.ensures.bytes) c.in-Some.ensures.0) c.in-Some.ensures.1))
 
 pub returns-in-None : goal.returns-in-None
 returns-in-None g c =
     let k = (goal.at.returns-in-None g c).In-Frame in
     let t = taken g k in
-    let five = five_with g k (subst (λ (n : ℕ). 5 ≤ n) c.count-held.ensures c.if-held-lt-FRAMES.false) in
-    let block : c.bytes.result.now ≡ received (seen g k) t.frame = c.bytes.ensures.bytes ∙ ap concat t.held_is in
+    let many = subst (λ (n : ℕ). 5 ≤ n) c.count-held.ensures c.if-held-lt-FRAMES.false in
     same_receiver c.self.view_is
     (same_buffer c.args.buffer.now c.deliver_clean_block.new.buffer c.in-None.ensures.1
     (taken_to Hunting c.self.inside.mode _ c.drop_oldest.new.self.frames c.self.inside.misses _ t.source_is c.in-Hunting-default.is-0
     (ap (λ (h : Holding). h.frames) c.drop_oldest.ensures ∙ ap (drop 1) t.held_is)
-    (passes_by (ready g k) t.in_front (fifth g k five) c.in-Hunting-default.is-0
-    (subst (λ (b : List ℕ). IsCleanAndLegible c.self.inside.size b → ⊥) block c.in-None.ensures.0))))
+    (passes_by (ready g k) t.in_front (fifth g k many) c.in-Hunting-default.is-0
+    (subst (λ (b : List ℕ). IsCleanAndLegible c.self.inside.size b → ⊥) (block g k _ c.bytes.ensures.bytes) c.in-None.ensures.0))))
 
 pub returns-in-Ok : goal.returns-in-Ok
 returns-in-Ok g c =
     let k = (goal.at.returns-in-Ok g c).In-Frame in
     let t = taken g k in
-    let five = five_with g k (subst (λ (n : ℕ). 5 ≤ n) c.count-held.ensures c.if-held-lt-FRAMES.false) in
-    let block : c.bytes-in-Locked-default.result.now ≡ received (seen g k) t.frame = c.bytes-in-Locked-default.ensures.bytes ∙ ap concat t.held_is in
+    let many = subst (λ (n : ℕ). 5 ≤ n) c.count-held.ensures c.if-held-lt-FRAMES.false in
     same_receiver c.self.view_is
     (taken_to Locked c.self.inside.mode [] c.clear-in-Ok.new.self.frames 0 _ t.source_is c.in-Locked-default.is-0 (ap (λ (h : Holding). h.frames) c.clear-in-Ok.ensures)
-    (follows (ready g k) t.in_front (fifth g k five) c.in-Locked-default.is-0
-    (subst (λ (b : List ℕ). Delivers c.self.inside.size b c.in-Ok.delivery c.deliver_block.new.buffer) block c.in-Ok.ensures)))
+    (follows (ready g k) t.in_front (fifth g k many) c.in-Locked-default.is-0
+    (subst (λ (b : List ℕ). Delivers c.self.inside.size b c.in-Ok.delivery c.deliver_block.new.buffer) (block g k _ c.bytes-in-Locked-default.ensures.bytes) c.in-Ok.ensures)))
 
 pub returns-then-self : goal.returns-then-self
 returns-then-self g c =
     let k = (goal.at.returns-then-self g c).In-Frame in
     let t = taken g k in
-    let five = five_with g k (subst (λ (n : ℕ). 5 ≤ n) c.count-held.ensures c.if-held-lt-FRAMES.false) in
-    let block : c.bytes-in-Locked-default.result.now ≡ received (seen g k) t.frame = c.bytes-in-Locked-default.ensures.bytes ∙ ap concat t.held_is in
+    let many = subst (λ (n : ℕ). 5 ≤ n) c.count-held.ensures c.if-held-lt-FRAMES.false in
     same_receiver c.self.view_is
     (same_buffer c.args.buffer.now c.deliver_block.new.buffer c.in-Err.ensures.1
     (taken_to Locked c.self.inside.mode [] c.clear-then-self.new.self.frames (c.self.inside.misses + 1) _ t.source_is c.in-Locked-default.is-0
     (ap (λ (h : Holding). h.frames) c.clear-then-self.ensures)
-    (misses_one (ready g k) t.in_front (fifth g k five) c.in-Locked-default.is-0
-    (subst (λ (b : List ℕ). Misses c.self.inside.size b c.in-Err.refusal) block c.in-Err.ensures.0) c.if-self.true)))
+    (misses_one (ready g k) t.in_front (fifth g k many) c.in-Locked-default.is-0
+    (subst (λ (b : List ℕ). Misses c.self.inside.size b c.in-Err.refusal) (block g k _ c.bytes-in-Locked-default.ensures.bytes) c.in-Err.ensures.0) c.if-self.true)))
 
 pub returns-else-self : goal.returns-else-self
 returns-else-self g c =
     let k = (goal.at.returns-else-self g c).In-Frame in
     let t = taken g k in
-    let five = five_with g k (subst (λ (n : ℕ). 5 ≤ n) c.count-held.ensures c.if-held-lt-FRAMES.false) in
-    let block : c.bytes-in-Locked-default.result.now ≡ received (seen g k) t.frame = c.bytes-in-Locked-default.ensures.bytes ∙ ap concat t.held_is in
+    let many = subst (λ (n : ℕ). 5 ≤ n) c.count-held.ensures c.if-held-lt-FRAMES.false in
     same_receiver c.self.view_is
     (same_buffer c.args.buffer.now c.deliver_block.new.buffer c.in-Err.ensures.1
     (taken_to Hunting Hunting _ c.drop_oldest-else-self.new.self.frames 0 _ t.source_is refl
     (ap (λ (h : Holding). h.frames) c.drop_oldest-else-self.ensures ∙ ap (drop 1) t.held_is)
-    (loses_lock (ready g k) t.in_front (fifth g k five) c.in-Locked-default.is-0
-    (subst (λ (b : List ℕ). Misses c.self.inside.size b c.in-Err.refusal) block c.in-Err.ensures.0) c.if-self.false)))
+    (loses_lock (ready g k) t.in_front (fifth g k many) c.in-Locked-default.is-0
+    (subst (λ (b : List ℕ). Misses c.self.inside.size b c.in-Err.refusal) (block g k _ c.bytes-in-Locked-default.ensures.bytes) c.in-Err.ensures.0) c.if-self.false)))
