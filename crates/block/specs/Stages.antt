@@ -8,6 +8,7 @@ use Rattle.block.specs.declared.parameters.Parameters.{Parameters}
 use Rattle.block.specs.declared.parameters.Layout.{Layout}
 use Rattle.block.specs.declared.header.Header.{Header}
 use Rattle.interleaver.specs.declared.repair.Repair.{Repair}
+use Rattle.interleaver.specs.Rows.{RepairedOrStopped}
 use Rattle.block.specs.BlockRows.{RowsRepaired}
 use Rattle.block.specs.Layouts.{layout, read}
 use Rattle.block.specs.Headers.{starts, crowded, fire_fits, fills, of_block}
@@ -44,3 +45,8 @@ opened size block = cond (fire_fits block) (parted size (drop 3 block) (read (sl
 -- the rows of a block are repaired; or the first refusal is answered, and the buffer is as it was
 abbrev pub RepairsRows : ℕ → List ℕ → List ℕ → Result Repair Refusal → Type 0
 RepairsRows size before after answer = Performs (of_block size before []) (RowsRepaired size before after) (after ≡ before) answer
+
+-- every row is corrected, with so many bytes changed, or the repair stopped; or the first refusal is answered, and the buffer is as it was
+abbrev pub RepairsCleanRows : ℕ → List ℕ → List ℕ → Result (Option ℕ) Refusal → Type 0
+RepairsCleanRows size before after answer =
+    Performs (of_block size before []) (RepairedOrStopped size 120 10 before after) (after ≡ before) answer

@@ -1,5 +1,5 @@
 -- What reading a block answers, state by state.
-use Rattle.std.specs.Prelude.{◌≡◌, ℕ, ◌+◌, ◌-◌, Bool, not, List, [], ◌∷◌, Some, None, Ok, Err, Result, MatchResult, slice_index, slice_range}
+use Rattle.std.specs.Prelude.{◌≡◌, ℕ, ◌+◌, ◌-◌, Bool, not, List, [], ◌∷◌, Some, None, Ok, Err, Option, Result, MatchOption, MatchResult, slice_index, slice_range}
 use Rattle.gf.specs.declared.refusal.Refusal.{Refusal}
 use Rattle.gf.specs.declared.refusal.Refusal.TheVariants.{Index, UnitCheck}
 use Rattle.gf.specs.Refusals.{first_refusal, Answers, of_size}
@@ -10,8 +10,9 @@ use Rattle.block.specs.declared.reader.Repaired.{Repaired}
 use Rattle.block.specs.declared.reader.Opened.{Opened}
 use Rattle.block.specs.declared.reader.AccessUnit.{AccessUnit}
 use Rattle.block.specs.declared.refused.Refused.{Refused}
-use Rattle.block.specs.BlockRows.{RowsRepaired}
+use Rattle.block.specs.BlockRows.{RowsRepaired, RowsStopped}
 use Rattle.block.specs.Headers.{of_buffer, header, there, check_fits}
+use Rattle.block.specs.Laws.{Clean}
 
 -- A size of 1 to 24 is received; or it is refused.
 abbrev pub Receives : ℕ → Result Received Refusal → Type 0
@@ -22,6 +23,16 @@ abbrev pub Repairs : Received → List ℕ → List ℕ → Result (Repaired × 
 Repairs s before after answer =
     MatchResult answer
     (λ v. (first_refusal (of_buffer s.size before []) ≡ None) × (v.0.size ≡ s.size) × RowsRepaired s.size before after v.1)
+    (λ r. (first_refusal (of_buffer s.size before []) ≡ Some r.refusal) × (r.state ≡ s) × (after ≡ before))
+
+-- Every row of the block is corrected; or, with nothing said, the block is not clean, and the repair stopped; or the buffer is refused, and
+-- state and buffer are as they were.
+abbrev pub RepairsClean : Received → List ℕ → List ℕ → Result (Option (Repaired × Repair)) (Refused Received) → Type 0
+RepairsClean s before after answer =
+    MatchResult answer
+    (λ outcome. (first_refusal (of_buffer s.size before []) ≡ None)
+    × MatchOption outcome ((Clean s.size before → ⊥) × RowsStopped s.size before after)
+    (λ v. (v.0.size ≡ s.size) × RowsRepaired s.size before after v.1 × (v.1.rows_left ≡ 0)))
     (λ r. (first_refusal (of_buffer s.size before []) ≡ Some r.refusal) × (r.state ≡ s) × (after ≡ before))
 
 -- The header of the block is read; or the first refusal is answered, and the state handed back.

@@ -5,7 +5,7 @@ ghost use Rattle.block.specs.Headers.{Tiles};
 use super::checks::unit_check;
 use super::header::{Header, UnitPlace, read_header};
 use super::refused::Refused;
-use super::rows::repair_rows;
+use super::rows::{repair_clean_rows, repair_rows};
 use super::sized_block::check_buffer;
 use gf::Refusal;
 use interleaver::Repair;
@@ -43,7 +43,7 @@ pub struct AccessUnit<'b> {
 }
 
 impl Received {
-    ghost use Rattle.block.specs.States.{Receives, Repairs};
+    ghost use Rattle.block.specs.States.{Receives, Repairs, RepairsClean};
 
     // A block of this size is about to be read: 1 to 24, else it is refused.
     pub fn new(size: usize) -> Result<Received, Refusal>
@@ -61,6 +61,31 @@ impl Received {
     {
         match repair_rows(self.size, block) {
             Ok(repair) => Ok((Repaired { size: self.size }, repair)),
+            Err(refusal) => Err(Refused {
+                state: self,
+                refusal,
+            }),
+        }
+    }
+
+    // Corrects the rows of the block, and stops at the first that no codeword is near enough to: then it answers `None`, and the block is not
+    // clean.
+    pub fn repair_clean(
+        self,
+        block: &mut [u8],
+    ) -> Result<Option<(Repaired, Repair)>, Refused<Received>>
+        ensures { RepairsClean self block.old block.new result }
+    {
+        match repair_clean_rows(self.size, block) {
+            Ok(Some(changed)) => {
+                let repair = Repair {
+                    changed,
+                    rows_left: 0,
+                    lowest_left: None,
+                };
+                Ok(Some((Repaired { size: self.size }, repair)))
+            }
+            Ok(None) => Ok(None),
             Err(refusal) => Err(Refused {
                 state: self,
                 refusal,

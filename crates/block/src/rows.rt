@@ -1,7 +1,7 @@
 // The rows of a block: 120 bytes each, of which ten are checks, and as many rows as the subchannel index says.
 ghost use Rattle.std.specs.Prelude.{◌≡◌, ◌*◌, ◌≤◌, length};
 ghost use Rattle.block.specs.BlockRows.{RowsFilled};
-ghost use Rattle.block.specs.Stages.{RepairsRows};
+ghost use Rattle.block.specs.Stages.{RepairsRows, RepairsCleanRows};
 
 use gf::Refusal;
 use interleaver::{Repair, RowLayout};
@@ -15,6 +15,13 @@ pub(crate) fn repair_rows(size: usize, block: &mut [u8]) -> Result<Repair, Refus
     ensures { RepairsRows size block.old block.new result }
 {
     RowLayout::new(size, ROW_SYMBOLS, ROW_CHECKS)?.repair(block)
+}
+
+// Corrects the rows of a block of this size, and answers how many bytes have changed; or stops at the first row beyond correction.
+pub(crate) fn repair_clean_rows(size: usize, block: &mut [u8]) -> Result<Option<usize>, Refusal>
+    ensures { RepairsCleanRows size block.old block.new result }
+{
+    RowLayout::new(size, ROW_SYMBOLS, ROW_CHECKS)?.repair_clean(block)
 }
 
 // Writes the checks of the rows of a block of this size.

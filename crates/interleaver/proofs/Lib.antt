@@ -9,3 +9,4 @@ pub mod Progress
 pub mod Bytes
 pub mod Repairing
 pub mod Repaired
+pub mod Stopping

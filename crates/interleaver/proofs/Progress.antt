@@ -112,14 +112,16 @@ module _ (rows symbols checks : ℕ) where
       counted = row_count checks (row before done) (row next done) outcome few here
 
   -- all rows are repaired
-  pub repaired_all : (before after : List ℕ) (repair : Repair) → length before ≡ rows * symbols → RepairedTo rows before after repair
-      → BlockRepaired rows symbols checks before after repair
-  repaired_all before after repair long p = record {
-    long = p.long;
-    outcomes = p.outcomes;
-    each = p.each;
-    by_row = p.by_row;
-    changed = p.changed ∙ sym (distance-rows gf256 (bits 8) rows symbols before after long (p.long ∙ long));
-    left = p.left;
-    lowest = p.lowest;
-  }
+  pub repaired_all : (done : ℕ) (before after : List ℕ) (repair : Repair) → done ≡ rows → length before ≡ rows * symbols
+      → RepairedTo done before after repair → BlockRepaired rows symbols checks before after repair
+  repaired_all done before after repair all long q =
+      let p = subst (λ (n : ℕ). RepairedTo n before after repair) all q in
+      record {
+        long = p.long;
+        outcomes = p.outcomes;
+        each = p.each;
+        by_row = p.by_row;
+        changed = p.changed ∙ sym (distance-rows gf256 (bits 8) rows symbols before after long (p.long ∙ long));
+        left = p.left;
+        lowest = p.lowest;
+      }

@@ -33,7 +33,7 @@ corrected_near checks before after count other n w e c near =
     (e ∙ sym (length-map before (bits 8))) (omega (arith, length-map before (bits 8))) w.codeword c (omega (arith, w.counted, w.few)) near
 
 -- a row has one outcome
-row_once : (checks : ℕ) (before after after′ : List ℕ) (outcome outcome′ : Option ℕ) → length before ≤ 255
+pub row_once : (checks : ℕ) (before after after′ : List ℕ) (outcome outcome′ : Option ℕ) → length before ≤ 255
     → RowRepaired checks before after outcome → RowRepaired checks before after′ outcome′
     → (elements after ≡ elements after′) × (outcome ≡ outcome′)
 row_once checks before after after′ None None n w w′ = (ap elements (w.same ∙ sym w′.same), refl)

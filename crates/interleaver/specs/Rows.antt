@@ -1,5 +1,5 @@
 -- The rows of a block, and what filling their checks and correcting them does.
-use Rattle.std.specs.Prelude.{◌≡◌, ℕ, ◌+◌, ◌-◌, ◌*◌, ◌<◌, ◌≤◌, Bool, not, List, [], ◌∷◌, map, length, take, None, Option, MatchOption, ◌≢◌, is_none, slice_index, slice_index_or, count_by, position}
+use Rattle.std.specs.Prelude.{◌≡◌, ℕ, ◌+◌, ◌-◌, ◌*◌, ◌<◌, ◌≤◌, Bool, not, List, [], ◌∷◌, map, length, take, Some, None, Option, MatchOption, ◌≢◌, is_none, slice_index, slice_index_or, count_by, position}
 use Rattle.std.specs.List.{range_with_len}
 use Rattle.gf.specs.declared.refusal.Refusal.{Refusal}
 use Rattle.gf.specs.declared.refusal.Refusal.TheVariants.{Shape}
@@ -64,6 +64,27 @@ pub record BlockRepaired (rows symbols checks : ℕ) (before after : List ℕ) (
   pub changed : repair.changed ≡ wrong before after
   pub left : repair.rows_left ≡ count_by is_none outcomes
   pub lowest : repair.lowest_left ≡ position is_none outcomes
+
+-- what a repair answers that leaves no row
+abbrev pub all_corrected : ℕ → Repair
+all_corrected changed = record { changed = changed; rows_left = 0; lowest_left = None }
+
+-- A repair that stopped at the first row that no codeword is near enough to: the rows before it are corrected, and the others are as they
+-- were.
+pub record RepairStopped (rows symbols checks : ℕ) (before after : List ℕ) : Type 0 where
+  pub long : length after ≡ length before
+  pub first_left : ℕ
+  pub within : first_left < rows
+  pub corrected : (i : ℕ) → i < first_left
+      → (count : ℕ) × RowRepaired checks (row_of rows symbols before i) (row_of rows symbols after i) (Some count)
+  pub left : RowRepaired checks (row_of rows symbols before first_left) (row_of rows symbols after first_left) None
+  pub rest : (i : ℕ) → first_left < i → i < rows → row_of rows symbols after i ≡ row_of rows symbols before i
+
+-- Every row of the block is corrected, with so many bytes changed; or, with none said, the repair has stopped.
+abbrev pub RepairedOrStopped : ℕ → ℕ → ℕ → List ℕ → List ℕ → Option ℕ → Type 0
+RepairedOrStopped rows symbols checks before after outcome =
+    MatchOption outcome (RepairStopped rows symbols checks before after)
+    (λ changed. BlockRepaired rows symbols checks before after (all_corrected changed))
 
 -- Filling the checks of a block: each row's checks are those of its data, and no other byte is written.
 pub record ChecksFilled (rows symbols checks : ℕ) (before after : List ℕ) : Type 0 where

@@ -22,7 +22,7 @@ pub struct Repair {
 }
 
 impl RowLayout {
-    ghost use Rattle.interleaver.specs.Layouts.{rows_of, symbols_of, checks_of, Repairs, Fills};
+    ghost use Rattle.interleaver.specs.Layouts.{rows_of, symbols_of, checks_of, Repairs, RepairsClean, Fills};
 
     // Corrects a row of the block, and answers how many of its bytes have changed. Where no codeword is near enough, it stays as it was.
     fn repair_row(&self, row: usize, block: &mut [u8], work: &mut [Gf256]) -> Option<usize>
@@ -67,6 +67,25 @@ impl RowLayout {
             }
         }
         Ok(repair)
+    }
+
+    // Corrects the rows of the block one by one, and stops at the first that no codeword is near enough to. It answers how many bytes have
+    // changed; or nothing where it stopped: then the rows before that one are corrected, and the others are as they were.
+    pub fn repair_clean(&self, block: &mut [u8]) -> Result<Option<usize>, Refusal>
+        ensures { RepairsClean self.now block.old block.new result }
+    {
+        if block.len() != self.block_length() {
+            return Err(Refusal::Buffer);
+        }
+        let mut work = [Gf256(0); WORK_SYMBOLS];
+        let mut changed = 0;
+        for row in 0..self.rows {
+            let Some(count) = self.repair_row(row, block, &mut work) else {
+                return Ok(None);
+            };
+            changed += count;
+        }
+        Ok(Some(changed))
     }
 
     // Writes the checks of a row of the block.

@@ -1,12 +1,14 @@
 -- What repairing a block decides: a delivery is clean where the block is, and none is legible that is missed.
-use Rattle.std.proofs.Common.{◌≡◌, ℕ, List, Some, None, Ok, Err, Result, MatchResult, ap, ◌∙◌, subst, arith}
+use Rattle.std.proofs.Common.{◌≡◌, ℕ, ◌*◌, List, length, Option, Ok, Err, Result, MatchOption, MatchResult, sym, ap, ◌∙◌, subst, arith}
 use Rattle.std.specs.Result.{result_ok}
 use Rattle.gf.specs.declared.refusal.Refusal.{Refusal}
 use Rattle.interleaver.specs.declared.repair.Repair.{Repair}
+use Rattle.interleaver.specs.Rows.{AreBytes}
+use Rattle.block.specs.BlockRows.{RowsRepaired}
 use Rattle.block.specs.Headers.{header}
 use Rattle.block.specs.Laws.{Clean}
 use Rattle.reception.specs.declared.answers.Delivery.{Delivery}
-use Rattle.reception.specs.Blocks.{Delivers, Misses, IsLegible}
+use Rattle.reception.specs.Blocks.{RepairOf, Delivers, Misses, IsLegible, IsCleanAndLegible}
 use Rattle.reception.proofs.RepairedBlocks.{repaired_once}
 
 -- a header is not both right and refused
@@ -26,14 +28,26 @@ none_left size received block d delivers clean =
     (record { long = clean.long; bytes = clean.bytes; rows = clean.rows }) in
     ap (λ (repair : Repair). repair.rows_left) same.1 ∙ clean.none_left
 
--- what was read, where there is a delivery
-pub delivered : (size : ℕ) (received block : List ℕ) (answer : Result Delivery Refusal) (d : Delivery)
-    → MatchResult answer (λ e. Delivers size received e block) (Misses size received) → Some d ≡ result_ok answer → Delivers size received d block
-delivered size received block (Ok e) d read is = let same : e ≡ d = cc in subst (λ x. Delivers size received x block) same read
-delivered size received block (Err refusal) d read is = let z : ◌≡◌ {A = ℕ} 0 1 = cc in absurd (omega (arith, z))
+-- the repaired rows of a received block, whatever its size is called
+pub repair_of : (made size : ℕ) (received block : List ℕ) (repair : Repair) → made ≡ size → length received ≡ 120 * size → AreBytes block
+    → RowsRepaired made received block repair → RepairOf size received block repair
+repair_of made size received block repair e long bytes rows =
+    record { long = long; bytes = bytes; rows = subst (λ (n : ℕ). RowsRepaired n received block repair) e rows }
 
--- and where there is none
-pub not_legible : (size : ℕ) (received block : List ℕ) (answer : Result Delivery Refusal)
-    → MatchResult answer (λ e. Delivers size received e block) (Misses size received) → None ≡ result_ok answer → IsLegible size received → ⊥
-not_legible size received block (Ok e) read is legible = let z : ◌≡◌ {A = ℕ} 0 1 = cc in omega (arith, z)
-not_legible size received block (Err refusal) read is legible = never_both size received refusal read legible
+-- what is read of a block with no row left
+pub read_clean : (size : ℕ) (received block : List ℕ) (repair : Repair) (answer : Result Delivery Refusal) (outcome : Option Delivery)
+    → RepairOf size received block repair → repair.rows_left ≡ 0
+    → MatchResult answer (λ d. Delivers size received d block) (Misses size received) → outcome ≡ result_ok answer
+    → MatchOption outcome (IsCleanAndLegible size received → ⊥) (λ d. Delivers size received d block × (d.repair.rows_left ≡ 0))
+read_clean size received block repair answer outcome r none read is =
+    subst (λ o. MatchOption o (IsCleanAndLegible size received → ⊥) (λ d. Delivers size received d block × (d.repair.rows_left ≡ 0))) (sym is)
+    (by answer read)
+  where
+    by : (answer : Result Delivery Refusal) → MatchResult answer (λ d. Delivers size received d block) (Misses size received)
+        → MatchOption (result_ok answer) (IsCleanAndLegible size received → ⊥)
+        (λ d. Delivers size received d block × (d.repair.rows_left ≡ 0))
+    by (Ok d) delivers = (
+      delivers,
+      ap (λ (done : Repair). done.rows_left) (repaired_once size received block block d.repair repair delivers.repaired r).1 ∙ none,
+    )
+    by (Err refusal) misses = λ both. never_both size received refusal misses both.1

@@ -1,5 +1,5 @@
 -- What five frames put together are: repaired, legible, clean, or a written super frame that was received with few wrong bytes.
-use Rattle.std.specs.Prelude.{◌≡◌, ℕ, ◌*◌, ◌<◌, ◌≤◌, List, map, length, cond, Some, None, Ok, Err, Option, nat_lt}
+use Rattle.std.specs.Prelude.{◌≡◌, ℕ, ◌*◌, ◌<◌, ◌≤◌, List, map, length, cond, Some, None, Ok, Err, Option, Result, MatchResult, nat_lt}
 use Rattle.std.specs.List.{range_with_len}
 use Rattle.gf.specs.declared.refusal.Refusal.{Refusal}
 use Rattle.interleaver.specs.declared.repair.Repair.{Repair}
@@ -38,6 +38,12 @@ pub record Misses (size : ℕ) (received : List ℕ) (refusal : Refusal) : Type 
   pub repair : Repair
   pub repaired : RepairOf size received block repair
   pub refused : header size block ≡ Err refusal
+
+-- What reading a repaired block answers, whichever block was repaired to it: it is delivered, or missed.
+abbrev pub Reads : ℕ → Repair → List ℕ → Result Delivery Refusal → Type 0
+Reads size repair block answer =
+    (received : List ℕ) → RepairOf size received block repair
+    → MatchResult answer (λ d. Delivers size received d block) (Misses size received)
 
 -- Legible: repaired, its header is right, whatever it says.
 abbrev pub IsLegible : ℕ → List ℕ → Type 0

@@ -2,12 +2,13 @@
 ghost use Rattle.std.specs.Prelude.{◌≡◌, ◌*◌, ◌≤◌, length, MatchOption, MatchResult};
 ghost use Rattle.interleaver.specs.Rows.{AreBytes};
 ghost use Rattle.block.specs.States.{header_of};
-ghost use Rattle.reception.specs.Blocks.{state_of_unit, states_of_units, Delivers, Misses, IsCleanAndLegible};
+ghost use Rattle.reception.specs.Blocks.{state_of_unit, states_of_units, Delivers, Misses, Reads, IsCleanAndLegible};
 
 use crate::answers::{Delivery, UnitState};
 use crate::sizes::MAX_BLOCK_BYTES;
-use block::{Opened, Received};
+use block::{Opened, Received, Repaired};
 use gf::Refusal;
+use interleaver::Repair;
 
 // What the check of unit `n` says, if there is such a unit.
 fn unit_state(opened: &Opened, block: &[u8], n: usize) -> Option<UnitState>
@@ -33,6 +34,18 @@ fn unit_states(opened: &Opened, block: &[u8]) -> [Option<UnitState>; 6]
     states
 }
 
+// Reads what a repaired block says; or answers the refusal of its header.
+fn read_repaired(repaired: Repaired, repair: Repair, block: &[u8]) -> Result<Delivery, Refusal>
+    ensures { Reads repaired.size repair block.now result }
+{
+    let opened = repaired.open(block)?;
+    Ok(Delivery {
+        header: opened.header(),
+        repair,
+        units: unit_states(&opened, block),
+    })
+}
+
 // Repairs a block that was received, and reads what it says; or answers the refusal of its header.
 fn open_block(size: usize, block: &mut [u8]) -> Result<Delivery, Refusal>
     requires size { (1 ≤ size) × (size ≤ 24) }
@@ -40,12 +53,7 @@ fn open_block(size: usize, block: &mut [u8]) -> Result<Delivery, Refusal>
     ensures { AreBytes block.new → MatchResult result (λ d. Delivers size block.old d block.new) (Misses size block.old) }
 {
     let (repaired, repair) = Received::new(size)?.repair(block)?;
-    let opened = repaired.open(block)?;
-    Ok(Delivery {
-        header: opened.header(),
-        repair,
-        units: unit_states(&opened, block),
-    })
+    read_repaired(repaired, repair, block)
 }
 
 // The same of bytes that stay as they were received; `block` holds the repaired ones then.
@@ -76,7 +84,25 @@ pub(crate) fn deliver_block(
     Ok(delivery)
 }
 
-// The same, if no row is left.
+// Repairs a block that was received, if no row is left, and reads what it says.
+fn open_clean_block(size: usize, block: &mut [u8]) -> Option<Delivery>
+    requires size { (1 ≤ size) × (size ≤ 24) }
+    requires long { length block.old ≡ 120 * size }
+    ensures { AreBytes block.new → MatchOption result (IsCleanAndLegible size block.old → ⊥)
+        (λ d. Delivers size block.old d block.new × (d.repair.rows_left ≡ 0)) }
+{
+    // Size and block are as both calls ask for.
+    let Ok(received) = Received::new(size) else {
+        unreachable!()
+    };
+    let Ok(outcome) = received.repair_clean(block) else {
+        unreachable!()
+    };
+    let (repaired, repair) = outcome?;
+    read_repaired(repaired, repair, block).ok()
+}
+
+// As `deliver_block`, if no row is left.
 pub(crate) fn deliver_clean_block(
     size: usize,
     received: &[u8],
@@ -89,10 +115,8 @@ pub(crate) fn deliver_clean_block(
 {
     let mut work = [0; MAX_BLOCK_BYTES];
     let block = &mut work[..received.len()];
-    let delivery = read_block(size, received, block).ok()?;
-    if delivery.repair.rows_left > 0 {
-        return None;
-    }
+    block.copy_from_slice(received);
+    let delivery = open_clean_block(size, block)?;
     buffer.copy_from_slice(block);
     Some(delivery)
 }

@@ -1,5 +1,5 @@
 -- One row more is repaired; where all are, the block is; and the theorems.
-use Rattle.std.proofs.Common.{ℕ, ◌≤◌, Some, None, sym, subst, ◌+◌, rules, arith}
+use Rattle.std.proofs.Common.{◌≤◌, Some, None, sym, subst, ◌+◌, rules, arith}
 use Rattle.gf.specs.Fields.{gf256}
 use Rattle.codes.proofs.Shapes.{code_sizes}
 use Rattle.interleaver.proofs.Places.{one_row_and_column, rows_decide}
@@ -56,10 +56,9 @@ loop-row-preserved c =
 pub returns : goal.returns
 returns c =
     let l = c.args.self.now in
-    let block = c.loop-row.block in
-    let To = λ (done : ℕ). RepairedTo l.rows l.symbols l.checks done c.args.block.now block c.loop-row.repair in
-    let done = repaired_all l.rows l.symbols l.checks c.args.block.now block c.loop-row.repair (omega arith)
-    (subst To (omega arith) c.loop-row.invariant.repaired) in
+    let done =
+    repaired_all l.rows l.symbols l.checks c.loop-row.row c.args.block.now c.loop-row.block c.loop-row.repair (omega arith) (omega arith)
+    c.loop-row.invariant.repaired in
     record {
       answer = search rules;
       places = one_row_and_column l.rows l.symbols;
