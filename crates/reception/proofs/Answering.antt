@@ -15,9 +15,9 @@ use Rattle.sources.specs.Sources.{with_last, offer_complaints}
 use Rattle.reception.specs.declared.mode.Mode.{Mode}
 use Rattle.reception.specs.declared.mode.Mode.TheVariants.{Hunting, Locked}
 use Rattle.reception.specs.declared.answers.Delivery.{Delivery}
-use Rattle.reception.specs.Receptions.{Reception, taking, pull_complaints, Event, Asked, pull, offer, reset, patience, report, asked_by}
-use Rattle.reception.specs.Blocks.{RepairOf, states_of_units, Delivers, Misses}
-use Rattle.reception.specs.Rules.{Ready, InFront, with_frame, Fifth, received, patience_complaints, Rule, pull_refused, nothing_waits, gathers, finds, passes_by, follows, misses_one, loses_lock, passes_on, restarts, sets_patience, keeps_patience, reports}
+use Rattle.reception.specs.Receptions.{Reception, taking, pull_complaints, Event, Asked, pull, offer, reset, patience, report, asked_by, patience_complaints}
+use Rattle.reception.specs.Blocks.{RepairOf, states_of_units, Delivers, Misread}
+use Rattle.reception.specs.Rules.{Ready, InFront, with_frame, Fifth, received, Rule, pull_refused, nothing_waits, gathers, finds, passes_by, follows, misses_one, loses_lock, passes_on, restarts, sets_patience, keeps_patience, reports}
 use Rattle.reception.specs.Service.{Sound, AsksOfBytes, OneAnswer}
 use Rattle.reception.proofs.RepairedBlocks.{repaired_somehow}
 use Rattle.reception.proofs.Lists.{four_left}
@@ -96,7 +96,7 @@ module _ (r : Reception) (sound : Sound r) where
       unfolding delivery
       delivers h reads = record { repaired = repaired; header_is = reads; units_are = refl }
 
-      misses : (refusal : Refusal) → header r.size block ≡ Err refusal → Misses r.size (received r frame) refusal
+      misses : (refusal : Refusal) → header r.size block ≡ Err refusal → Misread r.size (received r frame) refusal
       misses refusal refused = record { block = block; repair = repair; repaired = repaired; refused = refused }
 
       read_five : (mode : Mode) → r.mode ≡ mode → (read : Result Header Refusal) → header r.size block ≡ read → Answer r (pull lent)

@@ -14,7 +14,7 @@ use Rattle.reception.specs.declared.answers.UnitState.TheVariants.{Good, Bad}
 use Rattle.reception.specs.declared.answers.Delivery.{Delivery}
 use Rattle.reception.specs.declared.answers.Pulled.TheVariants.{Delivered}
 use Rattle.reception.specs.Receptions.{pulled}
-use Rattle.reception.specs.Blocks.{RepairOf, state_of_unit, states_of_units, Delivers, Misses, IsLegible, IsCleanAndLegible, SuperFrame, Carries}
+use Rattle.reception.specs.Blocks.{RepairOf, state_of_unit, states_of_units, Delivers, Misread, IsLegible, IsCleanAndLegible, SuperFrame, Carries}
 use Rattle.reception.specs.Recovery.{AsWritten}
 use Rattle.reception.proofs.RepairedBlocks.{repaired_once, carried_repair, written_reads}
 
@@ -55,9 +55,9 @@ module _ {size : ℕ} {received : List ℕ} {written : SuperFrame} (c : Carries 
   pub as_written : {block before : List ℕ} {d : Delivery} → Delivers size received d block
       → AsWritten size received written (pulled before (Ok (Delivered d)) block)
   as_written {block} {before} {d} delivered = record {
-    before = before;
+    lent = before;
     d = d;
-    delivers = ap (λ b. pulled before (Ok (Delivered d)) b) same.0;
+    event = ap (λ b. pulled before (Ok (Delivered d)) b) same.0;
     header = says;
     repair = same.1;
     units = units;
@@ -73,7 +73,7 @@ module _ {size : ℕ} {received : List ℕ} {written : SuperFrame} (c : Carries 
       units : d.units ≡ states_of_units written.header written.block
       units = delivered.units_are ∙ ap₂ states_of_units says same.0
 
-  pub not_missed : {refusal : Refusal} → Misses size received refusal → ⊥
+  pub not_missed : {refusal : Refusal} → Misread size received refusal → ⊥
   not_missed {refusal} missed =
       let same = repaired_to missed.block missed.repair missed.repaired in
       cc (missed.refused, reads, ap (header size) same.0)

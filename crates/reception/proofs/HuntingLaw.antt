@@ -7,15 +7,15 @@ use Rattle.reception.specs.declared.mode.Mode.TheVariants.{Hunting}
 use Rattle.reception.specs.Receptions.{Reception, Event}
 use Rattle.reception.specs.Blocks.{IsCleanAndLegible, SuperFrame}
 use Rattle.reception.specs.Rules.{with_frame, received, Rule, pull_refused, finds, passes_by, follows, misses_one, loses_lock, restarts}
-use Rattle.reception.specs.Runs.{Run, ends, goes_on, frames_taken, delivers, is_reset, found}
-use Rattle.reception.specs.Recovery.{line_of, FifthOf, Received}
+use Rattle.reception.specs.Runs.{Run, ends, goes_on, frames_taken, is_delivery, is_reset, found}
+use Rattle.reception.specs.Recovery.{line_of, FifthOf, Supposed}
 use Rattle.reception.specs.Service.{NoFalseBoundary, NothingLostWhileHunting}
 use Rattle.reception.proofs.Places.{Five, Place, Aligned, Astray}
 use Rattle.reception.proofs.WholeRuns.{EndsThere, keeps}
 
 -- where nothing was delivered, it hunts
 rule_hunts : {r after : Reception} {e : Event} (before : Bool) → Rule r e after → (before ≡ false → r.mode ≡ Hunting)
-    → cond (is_reset e) false (cond (delivers e) true before) ≡ false → after.mode ≡ Hunting
+    → cond (is_reset e) false (cond (is_delivery e) true before) ≡ false → after.mode ≡ Hunting
 rule_hunts before (pull_refused _) hunts none = hunts none
 rule_hunts before (finds _ _ _ _ _ _) hunts none = absurd (false≢true (sym none))
 rule_hunts before (passes_by _ _ _ _ _) hunts none = refl
@@ -29,7 +29,7 @@ run_hunts : {r after : Reception} {es : List Event} (before : Bool) → Run r es
     → found before es ≡ false → after.mode ≡ Hunting
 run_hunts before ends hunts none = hunts none
 run_hunts before (goes_on {e = e} rule rest) hunts none =
-    run_hunts (cond (is_reset e) false (cond (delivers e) true before)) rest (rule_hunts before rule hunts) none
+    run_hunts (cond (is_reset e) false (cond (is_delivery e) true before)) rest (rule_hunts before rule hunts) none
 
 -- hunting, what is found while at most four of the stretch's frames were taken ends with its fifth
 first_fifth : (line old new : List (List ℕ)) (size n : ℕ) (five : List (List ℕ)) → NoFalseBoundary size old new → Five line old new n five → n ≤ 4
@@ -39,7 +39,7 @@ first_fifth line old new size n five no_false seen few clean = elim (cases_lt n 
   | inr last ↦ omega arith
 ]
 
-found_there : {size : ℕ} {source : Source} {past future : List Event} {sent : List SuperFrame} (r : Received size source past future sent)
+found_there : {size : ℕ} {source : Source} {past future : List Event} {sent : List SuperFrame} (r : Supposed size source past future sent)
     → NoFalseBoundary size (frames_taken r.earlier) (frames_taken r.later) → EndsThere r ⊥
 found_there r no_false now frame n same inside place fifth seen readable (inl locked) =
     aligned (subst (λ m. Place ⊥ n m (length now.held) now.misses now.patience) locked place)

@@ -8,14 +8,14 @@ use Rattle.block.specs.BlockRows.{RowsRepaired}
 use Rattle.block.specs.Headers.{header}
 use Rattle.block.specs.Laws.{Clean}
 use Rattle.reception.specs.declared.answers.Delivery.{Delivery}
-use Rattle.reception.specs.Blocks.{RepairOf, Delivers, Misses, IsLegible, IsCleanAndLegible}
+use Rattle.reception.specs.Blocks.{RepairOf, Delivers, Misread, IsLegible, IsCleanAndLegible}
 use Rattle.reception.proofs.RepairedBlocks.{repaired_once}
 
 -- a header is not both right and refused
 ok_not_err : {A : Type 0} (answer : Result A Refusal) (value : A) (refusal : Refusal) → answer ≡ Ok value → answer ≡ Err refusal → ⊥
 ok_not_err answer value refusal p q = let z : ◌≡◌ {A = ℕ} 0 1 = cc in omega (arith, z)
 
-pub never_both : (size : ℕ) (received : List ℕ) (refusal : Refusal) → Misses size received refusal → IsLegible size received → ⊥
+pub never_both : (size : ℕ) (received : List ℕ) (refusal : Refusal) → Misread size received refusal → IsLegible size received → ⊥
 never_both size received refusal m l =
     let legible = l.1 in
     let same = repaired_once size received m.block legible.repaired m.repair legible.repair m.repaired
@@ -37,13 +37,13 @@ repair_of made size received block repair e long bytes rows =
 -- what is read of a block with no row left
 pub read_clean : (size : ℕ) (received block : List ℕ) (repair : Repair) (answer : Result Delivery Refusal) (outcome : Option Delivery)
     → RepairOf size received block repair → repair.rows_left ≡ 0
-    → MatchResult answer (λ d. Delivers size received d block) (Misses size received) → outcome ≡ result_ok answer
+    → MatchResult answer (λ d. Delivers size received d block) (Misread size received) → outcome ≡ result_ok answer
     → MatchOption outcome (IsCleanAndLegible size received → ⊥) (λ d. Delivers size received d block × (d.repair.rows_left ≡ 0))
 read_clean size received block repair answer outcome r none read is =
     subst (λ o. MatchOption o (IsCleanAndLegible size received → ⊥) (λ d. Delivers size received d block × (d.repair.rows_left ≡ 0))) (sym is)
     (by answer read)
   where
-    by : (answer : Result Delivery Refusal) → MatchResult answer (λ d. Delivers size received d block) (Misses size received)
+    by : (answer : Result Delivery Refusal) → MatchResult answer (λ d. Delivers size received d block) (Misread size received)
         → MatchOption (result_ok answer) (IsCleanAndLegible size received → ⊥)
         (λ d. Delivers size received d block × (d.repair.rows_left ≡ 0))
     by (Ok d) delivers = (

@@ -7,9 +7,9 @@ use Rattle.block.specs.Headers.{header}
 use Rattle.reception.specs.declared.mode.Mode.TheVariants.{Hunting, Locked}
 use Rattle.reception.specs.declared.answers.Delivery.{Delivery}
 use Rattle.reception.specs.declared.answers.Pulled.TheVariants.{NothingWaiting, Held, Missed, Delivered}
-use Rattle.reception.specs.Receptions.{Reception, taking, report_of, pull_complaints, Event, pulled, offered, restarted, patience_set, reported, Asked, pull, offer, reset, patience, report, asked_by}
-use Rattle.reception.specs.Blocks.{states_of_units, Delivers, Misses, IsLegible, IsCleanAndLegible}
-use Rattle.reception.specs.Rules.{Ready, InFront, with_frame, Fifth, received, patience_complaints, Rule, pull_refused, nothing_waits, gathers, finds, passes_by, follows, misses_one, loses_lock, passes_on, restarts, sets_patience, keeps_patience, reports}
+use Rattle.reception.specs.Receptions.{Reception, taking, report_of, pull_complaints, Event, pulled, offered, restarted, patience_set, reported, Asked, pull, offer, reset, patience, report, asked_by, patience_complaints}
+use Rattle.reception.specs.Blocks.{states_of_units, Delivers, Misread, IsLegible, IsCleanAndLegible}
+use Rattle.reception.specs.Rules.{Ready, InFront, with_frame, Fifth, received, Rule, pull_refused, nothing_waits, gathers, finds, passes_by, follows, misses_one, loses_lock, passes_on, restarts, sets_patience, keeps_patience, reports}
 use Rattle.sources.proofs.Deciding.{determined}
 use Rattle.reception.proofs.RepairedBlocks.{repaired_once}
 use Rattle.reception.proofs.Judging.{never_both}
@@ -34,7 +34,7 @@ module _ {size : ℕ} {received : List ℕ} where
       units : d.units ≡ d′.units
       units = p.units_are ∙ ap₂ states_of_units says same.0 ∙ sym q.units_are
 
-  missed_once : {refusal refusal′ : Refusal} → Misses size received refusal → Misses size received refusal′ → refusal ≡ refusal′
+  missed_once : {refusal refusal′ : Refusal} → Misread size received refusal → Misread size received refusal′ → refusal ≡ refusal′
   missed_once {refusal} {refusal′} p q =
       let same = repaired_once size received p.block q.block p.repair q.repair p.repaired q.repaired in
       cc (p.refused, q.refused, ap (header size) same.0)
@@ -59,7 +59,7 @@ module _ (r : Reception) (lent : List ℕ) where
   abbrev Follows : List ℕ → Event → Reception → Type 0
   Follows frame =
       Either (IsLegible r.size (received r frame)) (Delivering frame (λ x. Delivers r.size (received r frame) x.1 x.0))
-      (IsLegible r.size (received r frame) → ⊥) (Given Refusal (Misses r.size (received r frame)) (MissesOne frame))
+      (IsLegible r.size (received r frame) → ⊥) (Given Refusal (Misread r.size (received r frame)) (MissesOne frame))
 
   abbrev TakesOne : List ℕ → Event → Reception → Type 0
   TakesOne frame =

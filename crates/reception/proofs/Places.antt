@@ -1,5 +1,5 @@
 -- Where a receiver stands in a stretch of good reception: what each rule does there, and what the event answers.
-use Rattle.std.proofs.Common.{◌≡◌, ℕ, ◌+◌, ◌*◌, ◌<◌, ◌≤◌, ◌⊎◌, true, cond, List, [], ◌∷◌, ◌++◌, length, Ok, sym, refl, subst, inl, inr, add-zero, length-append, arith}
+use Rattle.std.proofs.Common.{◌≡◌, ℕ, ◌+◌, ◌-◌, ◌*◌, ◌<◌, ◌≤◌, ◌⊎◌, true, cond, List, [], ◌∷◌, ◌++◌, length, Ok, sym, refl, subst, inl, inr, add-zero, length-append, arith}
 use Rattle.std.proofs.lemmas.Bool.{cases_lt, false≢true}
 use Rattle.std.specs.List.{concat}
 use Rattle.gf.specs.declared.refusal.Refusal.{Refusal}
@@ -8,7 +8,7 @@ use Rattle.reception.specs.declared.mode.Mode.TheVariants.{Hunting, Locked}
 use Rattle.reception.specs.declared.answers.Delivery.{Delivery}
 use Rattle.reception.specs.declared.answers.Pulled.TheVariants.{Delivered}
 use Rattle.reception.specs.Receptions.{Reception, Event, pulled}
-use Rattle.reception.specs.Blocks.{Delivers, Misses, IsLegible, IsCleanAndLegible, SuperFrame, Carries}
+use Rattle.reception.specs.Blocks.{Delivers, Misread, IsLegible, IsCleanAndLegible, SuperFrame, Carries}
 use Rattle.reception.specs.Rules.{Ready, InFront, with_frame, Fifth, received, Rule, pull_refused, gathers, finds, passes_by, follows, misses_one, loses_lock, restarts, sets_patience}
 use Rattle.reception.specs.Runs.{takes, disturbs}
 use Rattle.reception.specs.Recovery.{At, five_at, Stretch, FifthOf, AsWritten, Keeps}
@@ -117,7 +117,7 @@ module _ (Strays : Type 0) where
       carried {five} {i} {written} seen at f = subst (λ b. Carries r.size b written) (sym (seen.own i f)) (h.stretch.carried at)
 
       delivery_keeps : {five : List (List ℕ)} {before block : List ℕ} {d : Delivery} → Five line old new n five → (i : ℕ) × FifthOf i n
-          → Delivers r.size (concat five) d block → Keeps r.size number line sent n (pulled before (Ok (Delivered d)) block)
+          → Delivers r.size (concat five) d block → Keeps r.size (number - 1) line sent n (pulled before (Ok (Delivered d)) block)
       delivery_keeps {five} {before} {block} {d} seen ends delivered = record {
         none_lost = λ i written at f _. it i written at f;
         none_else = λ _ _ _ _. let w = ended ends.0 ends.1 in (ends.0, w.0, w.1, ends.1, it ends.0 w.0 w.1 ends.1);
@@ -130,9 +130,9 @@ module _ (Strays : Type 0) where
               (as_written (carried seen at f) delivered)
 
       no_delivery_keeps : {other : Event} → ((before after : List ℕ) (d : Delivery) → other ≡ pulled before (Ok (Delivered d)) after → ⊥)
-          → ((i : ℕ) (written : SuperFrame) → At sent i written → FifthOf i n → number ≤ i + 1 → ⊥) → Keeps r.size number line sent n other
+          → ((i : ℕ) (written : SuperFrame) → At sent i written → FifthOf i n → number ≤ i + 1 → ⊥) → Keeps r.size (number - 1) line sent n other
       no_delivery_keeps none not_here = record {
-        none_lost = λ i written at f q. absurd (not_here i written at f q);
+        none_lost = λ i written at f q. absurd (not_here i written at f (omega (arith, q)));
         none_else = λ before after d same. absurd (none before after d same);
       }
 
@@ -154,7 +154,7 @@ module _ (Strays : Type 0) where
 
       -- what is missed is no super frame of the stretch
       astray : (frame : List ℕ) {refusal : Refusal} → Five line old new n (with_frame r frame) → Fifth r → r.mode ≡ Locked
-          → Misses r.size (received r frame) refusal → Astray n (length r.held) r.misses r.patience
+          → Misread r.size (received r frame) refusal → Astray n (length r.held) r.misses r.patience
       astray frame {refusal} seen five locked misses = go (as_in Locked locked)
         where
           go : Aligned n (length r.held) ⊎ Astray n (length r.held) r.misses r.patience → Astray n (length r.held) r.misses r.patience
@@ -190,7 +190,7 @@ module _ (Strays : Type 0) where
           ]
 
     pub rule_keeps : {number n : ℕ} {r after : Reception} {e : Event} → Here number r e n → Rule r e after → takes e ≡ true
-        → Keeps r.size number line sent n e
+        → Keeps r.size (number - 1) line sent n e
     rule_keeps h (pull_refused _) t = absurd (false≢true t)
     rule_keeps {number = number} {n = n} h (gathers {r = r} _ _ few) t =
         no_delivery_keeps h (λ before after d same. cc)

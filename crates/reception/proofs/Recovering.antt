@@ -8,7 +8,7 @@ use Rattle.reception.specs.Receptions.{Event}
 use Rattle.reception.specs.Blocks.{IsLegible, SuperFrame}
 use Rattle.reception.specs.Rules.{with_frame, received}
 use Rattle.reception.specs.Runs.{frames_taken, patience_after, until_taken}
-use Rattle.reception.specs.Recovery.{FifthOf, NoOtherLegible, Received, BackAfterBadReception}
+use Rattle.reception.specs.Recovery.{FifthOf, NoOtherLegible, Supposed, BackAfterBadReception}
 use Rattle.reception.proofs.Places.{Place}
 use Rattle.reception.proofs.WholeRuns.{EndsThere, keeps}
 
@@ -31,7 +31,7 @@ anywhere Locked (suc held) misses patience few = inr (record {
 fifth_at : (n : ℕ) → (((i : ℕ) → FifthOf i n → ⊥) → ⊥) → (i : ℕ) × FifthOf i n
 fifth_at n some = elim (cases_eq (n % 5) 4) [ inl e ↦ (n / 5, omega arith) | inr ne ↦ absurd (some (λ i f. ne (omega arith))) ]
 
-own_only : {size : ℕ} {source : Source} {past future : List Event} {sent : List SuperFrame} (r : Received size source past future sent)
+own_only : {size : ℕ} {source : Source} {past future : List Event} {sent : List SuperFrame} (r : Supposed size source past future sent)
     → NoOtherLegible size (length sent) (frames_taken r.earlier) (frames_taken r.later) → EndsThere r (Unit {0})
 own_only r others now frame n same inside place fifth seen readable found =
     fifth_at n

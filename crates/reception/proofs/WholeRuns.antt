@@ -1,5 +1,5 @@
 -- From the rules one by one to whole runs: where a run stands once it took some frames of a stretch, and what it answers there.
-use Rattle.std.proofs.Common.{◌≡◌, ℕ, ◌+◌, ◌*◌, ◌<◌, ◌≤◌, ◌⊎◌, Bool, true, false, cond, List, [], ◌∷◌, ◌++◌, length, take, drop, sym, refl, ap, ap₂, ◌∙◌, subst, subst₂, inl, inr, length-append, append_assoc, append-nil, arith}
+use Rattle.std.proofs.Common.{◌≡◌, ℕ, ◌+◌, ◌-◌, ◌*◌, ◌<◌, ◌≤◌, ◌⊎◌, Bool, true, false, cond, List, [], ◌∷◌, ◌++◌, length, take, drop, sym, refl, ap, ap₂, ◌∙◌, subst, subst₂, inl, inr, length-append, append_assoc, append-nil, arith}
 use Rattle.std.proofs.lemmas.Bool.{false_from_ne_true, false≢true}
 use Rattle.std.specs.List.{concat}
 use Rattle.sources.specs.Sources.{Source}
@@ -8,7 +8,7 @@ use Rattle.reception.specs.Receptions.{Reception, Event, patience_set}
 use Rattle.reception.specs.Blocks.{IsLegible, IsCleanAndLegible, SuperFrame}
 use Rattle.reception.specs.Rules.{InFront, with_frame, Fifth, received, Rule}
 use Rattle.reception.specs.Runs.{Run, ends, goes_on, takes, number_taken, frame_taken, frames_taken, accepted_by, accepted, patience_by, patience_after, disturbs, until_taken}
-use Rattle.reception.specs.Recovery.{line_of, Stretch, Undisturbed, FifthOf, Keeps, Received}
+use Rattle.reception.specs.Recovery.{line_of, Stretch, Undisturbed, FifthOf, Keeps, Supposed}
 use Rattle.reception.proofs.Lists.{same_head, same_tail, end_of, five_behind}
 use Rattle.reception.proofs.Steps.{Holds, holds_none, rule_size, rule_line, rule_number, rule_holds, run_size, run_patience, run_number, run_holds}
 use Rattle.reception.proofs.Places.{Five, Placed, Here, rule_keeps, rule_place}
@@ -113,14 +113,14 @@ up_to (goes_on {r = r} {between = between} rule rest) (b ∷ before) after e eq 
     }
 
 -- whatever five it delivers, a super frame of the stretch ends there
-abbrev pub EndsThere : {size : ℕ} {source : Source} {past future : List Event} {sent : List SuperFrame} → Received size source past future sent
+abbrev pub EndsThere : {size : ℕ} {source : Source} {past future : List Event} {sent : List SuperFrame} → Supposed size source past future sent
     → Type 0 → Type 0
 EndsThere {size} {source} {past} {future} {sent} r Strays =
     (now : Reception) (frame : List ℕ) (n : ℕ) → now.size ≡ size → n < 5 * length sent → Placed Strays n now → Fifth now
     → Five (line_of r.cut future) (frames_taken r.earlier) (frames_taken r.later) n (with_frame now frame) → IsLegible now.size (received now frame)
     → (now.mode ≡ Locked) ⊎ ((now.mode ≡ Hunting) × IsCleanAndLegible now.size (received now frame)) → (i : ℕ) × FifthOf i n
 
-module _ {size : ℕ} {source : Source} {past future : List Event} {sent : List SuperFrame} (r : Received size source past future sent)
+module _ {size : ℕ} {source : Source} {past future : List Event} {sent : List SuperFrame} (r : Supposed size source past future sent)
     (Strays : Type 0)
     (boundary : EndsThere r Strays) where
   abbrev line : List (List ℕ)
@@ -220,9 +220,9 @@ module _ {size : ℕ} {source : Source} {past future : List Event} {sent : List 
   -- What the event answers that takes a frame of the stretch.
   pub keeps : (length r.cut.held ≤ 4 → Placed Strays 0 r.cut) → (number : ℕ) → (Strays → number ≡ patience_after 3 (past ++ until_taken future))
       → (before after : List Event) (e : Event) → future ≡ before ++ e ∷ after → takes e ≡ true → number_taken before < 5 * length sent
-      → Keeps size number line sent (number_taken before) e
+      → Keeps size (number - 1) line sent (number_taken before) e
   keeps start number same before after e eq t inside =
-      subst₂ (λ z n. Keeps z number line sent n e) there.size_is (run_number u.first)
+      subst₂ (λ z n. Keeps z (number - 1) line sent n e) there.size_is (run_number u.first)
       (rule_keeps Strays line old new sent
       (here {number = number} u.newer there inside_now (λ strays. same strays ∙ sym patience)) u.rule t)
     where

@@ -1,5 +1,5 @@
 -- What five frames put together are: repaired, legible, clean, or a written super frame that was received with few wrong bytes.
-use Rattle.std.specs.Prelude.{◌≡◌, ℕ, ◌*◌, ◌<◌, ◌≤◌, List, map, length, cond, Some, None, Ok, Err, Option, Result, MatchResult, nat_lt}
+use Rattle.std.specs.Prelude.{◌≡◌, ℕ, ◌*◌, ◌<◌, ◌≤◌, List, map, length, cond, Some, None, Ok, Err, Option, nat_lt}
 use Rattle.std.specs.List.{range_with_len}
 use Rattle.gf.specs.declared.refusal.Refusal.{Refusal}
 use Rattle.interleaver.specs.declared.repair.Repair.{Repair}
@@ -33,17 +33,11 @@ pub record Delivers (size : ℕ) (received : List ℕ) (d : Delivery) (block : L
   pub units_are : d.units ≡ states_of_units d.header block
 
 -- The received block is repaired, and its header is refused.
-pub record Misses (size : ℕ) (received : List ℕ) (refusal : Refusal) : Type 0 where
+pub record Misread (size : ℕ) (received : List ℕ) (refusal : Refusal) : Type 0 where
   pub block : List ℕ
   pub repair : Repair
   pub repaired : RepairOf size received block repair
   pub refused : header size block ≡ Err refusal
-
--- What reading a repaired block answers, whichever block was repaired to it: it is delivered, or missed.
-abbrev pub Reads : ℕ → Repair → List ℕ → Result Delivery Refusal → Type 0
-Reads size repair block answer =
-    (received : List ℕ) → RepairOf size received block repair
-    → MatchResult answer (λ d. Delivers size received d block) (Misses size received)
 
 -- Legible: repaired, its header is right, whatever it says.
 abbrev pub IsLegible : ℕ → List ℕ → Type 0
@@ -62,7 +56,8 @@ pub record SuperFrame : Type 0 where
 abbrev pub FewWrong : ℕ → List ℕ → List ℕ → Type 0
 FewWrong size received written = (row : ℕ) → row < size → wrong (row_of size 120 received row) (row_of size 120 written row) ≤ 5
 
--- The written super frame came as this block, with at most five wrong bytes in each row.
+-- The written super frame came as this block, with at most five wrong bytes in each row. The first five say only that both are blocks of
+-- bytes of this size.
 pub record Carries (size : ℕ) (received : List ℕ) (written : SuperFrame) : Type 0 where
   pub in_range : (1 ≤ size) × (size ≤ 24)
   pub received_long : length received ≡ 120 * size

@@ -6,7 +6,6 @@ use Rattle.reception.specs.declared.calls.Call.TheVariants.{Pull, Offer, Reset, 
 use Rattle.reception.specs.declared.calls.Outcome.{Outcome}
 use Rattle.reception.specs.declared.calls.Outcome.TheVariants as outcomes
 use Rattle.reception.specs.Receptions.{Reception, new_receiver, Asked, pull, offer, reset, patience, report, Event, pulled, offered, restarted, patience_set, reported, asked_by}
-use Rattle.reception.specs.Rules.{Rule}
 use Rattle.reception.specs.Runs.{Run}
 
 -- what a call asks, made while the buffer for pulls holds these bytes: a pull is lent as many of them as it says, or all
@@ -20,10 +19,7 @@ asked_of Report buffer = report
 -- what the buffer for pulls holds after an event
 abbrev pub left_by : Event → List ℕ → List ℕ
 left_by (pulled lent answer left) buffer = left ++ drop (length lent) buffer
-left_by (offered frame answer) buffer = buffer
-left_by restarted buffer = buffer
-left_by (patience_set number answer) buffer = buffer
-left_by (reported told) buffer = buffer
+left_by e buffer = buffer
 
 -- The events are of these calls, made one after another with this buffer for pulls, which holds `left` at the end.
 abbrev pub Answered : List Call → List ℕ → List Event → List ℕ → Type 0
@@ -43,10 +39,7 @@ outcome_of (reported told) = outcomes.Reported told
 -- what the buffer of a pull holds then; no bytes for any other call
 abbrev pub block_of : Event → List ℕ
 block_of (pulled lent answer left) = left
-block_of (offered frame answer) = []
-block_of restarted = []
-block_of (patience_set number answer) = []
-block_of (reported told) = []
+block_of e = []
 
 module _ {L : Type 0} (hears : L → Call → Outcome → List ℕ → L → Type 0) where
   -- The listener was told of each call, in order, what came of it.
@@ -65,11 +58,3 @@ module _ {L : Type 0} (hears : L → Call → Outcome → List ℕ → L → Typ
     pub run : Run (new_receiver size source) events end
     pub answered : Answered calls buffer events left
     pub told : Told calls events listener after
-
-  -- One call was run.
-  pub record Ran (r : Reception) (call : Call) (buffer left : List ℕ) (listener after : L) (r_after : Reception) : Type 0 where
-    pub event : Event
-    pub rule : Rule r event r_after
-    pub asked : asked_by event ≡ asked_of call buffer
-    pub left_is : left ≡ left_by event buffer
-    pub told : hears listener call (outcome_of event) (block_of event) after

@@ -8,3 +8,4 @@ pub mod Recovery
 pub mod Service
 pub mod Correcting
 pub mod Driving
+pub mod Stages

@@ -1,7 +1,7 @@
 -- What a receiver is to its callers, what it is asked, and what it answers.
-use Rattle.std.specs.Prelude.{ℕ, ◌*◌, Bool, not, List, [], ◌∷◌, length, Result, ◌==◌}
+use Rattle.std.specs.Prelude.{ℕ, ◌*◌, Bool, not, ◌&&◌, List, [], ◌∷◌, length, Result, ◌==◌, nat_le}
 use Rattle.gf.specs.declared.refusal.Refusal.{Refusal}
-use Rattle.gf.specs.declared.refusal.Refusal.TheVariants.{FrameLength}
+use Rattle.gf.specs.declared.refusal.Refusal.TheVariants.{FrameLength, Patience}
 use Rattle.gf.specs.Refusals.{of_size}
 use Rattle.block.specs.Headers.{of_block}
 use Rattle.sources.specs.Sources.{Source, without_first}
@@ -46,6 +46,10 @@ receiver_complaints size source = of_size size ((not (source.frame_length == 24 
 abbrev pub pull_complaints : Reception → List ℕ → List (Bool × Refusal)
 pull_complaints r buffer = of_block r.size buffer ((not (r.source.frame_length == 24 * r.size), FrameLength) ∷ [])
 
+-- the refusals of setting the patience, each with its condition
+abbrev pub patience_complaints : ℕ → List (Bool × Refusal)
+patience_complaints number = (not (nat_le 1 number && nat_le number 16), Patience) ∷ []
+
 -- What a receiver is asked.
 pub data Asked : Type 0 where
   -- to take the next frame, with a buffer for a super frame's block
@@ -70,7 +74,7 @@ pub data Event : Type 0 where
 
 -- what was asked
 abbrev pub asked_by : Event → Asked
-asked_by (pulled before answer after) = pull before
+asked_by (pulled lent answer left) = pull lent
 asked_by (offered frame answer) = offer frame
 asked_by restarted = reset
 asked_by (patience_set number answer) = patience number

@@ -1,5 +1,5 @@
 -- The law over runs: a receiver is back after bad reception, within a known number of super frames.
-use Rattle.std.specs.Prelude.{◌≡◌, ℕ, suc, ◌+◌, ◌*◌, ◌<◌, ◌≤◌, ◌⊎◌, true, List, ◌∷◌, ◌++◌, length, take, drop, Some, None, Ok, slice_index_or}
+use Rattle.std.specs.Prelude.{◌≡◌, ℕ, suc, ◌+◌, ◌-◌, ◌*◌, ◌<◌, ◌≤◌, ◌⊎◌, true, List, ◌∷◌, ◌++◌, length, take, drop, Some, None, Ok, slice_index_or}
 use Rattle.std.specs.List.{concat}
 use Rattle.interleaver.specs.Rows.{wrong}
 use Rattle.block.specs.Headers.{unit_count}
@@ -25,12 +25,13 @@ abbrev pub five_at : List (List ℕ) → ℕ → List ℕ
 five_at line i = concat (take 5 (drop (5 * i) line))
 
 -- A stretch of good reception begins the line: its first fives are the written super frames that were sent, one after another, each with at
--- most five wrong bytes in a row of its block.
+-- most five wrong bytes in each row of 120.
 pub record Stretch (size : ℕ) (line : List (List ℕ)) (sent : List SuperFrame) : Type 0 where
   pub long_enough : 5 * length sent ≤ length line
   pub carried : {i : ℕ} {written : SuperFrame} → At sent i written → Carries size (five_at line i) written
 
--- After the pull that takes the stretch's first frame and before the one that takes its last there is no reset, and no new patience.
+-- After the pull that takes the stretch's first frame and before the one that takes its last there is no reset, and no patience call that is
+-- accepted.
 abbrev pub Undisturbed : ℕ → List Event → Type 0
 Undisturbed super_frames future =
     (before after : List Event) (e : Event) → future ≡ before ++ e ∷ after → disturbs e ≡ true
@@ -49,10 +50,10 @@ NoOtherLegible size super_frames taken_before taken_later =
 
 -- The event delivers the super frame, received as this block, as it was written.
 pub record AsWritten (size : ℕ) (received : List ℕ) (written : SuperFrame) (e : Event) : Type 0 where
-  pub before : List ℕ
+  pub lent : List ℕ
   pub d : Delivery
   -- it is a delivery, and the buffer is the written super frame, byte for byte
-  pub delivers : e ≡ pulled before (Ok (Delivered d)) written.block
+  pub event : e ≡ pulled lent (Ok (Delivered d)) written.block
   -- parameters and starts are those of its header
   pub header : d.header ≡ written.header
   -- no row is left, and the bytes changed are the wrong ones
@@ -61,17 +62,17 @@ pub record AsWritten (size : ℕ) (received : List ℕ) (written : SuperFrame) (
   pub units : d.units ≡ states_of_units written.header written.block
   pub all_good : (n : ℕ) → n < unit_count written.header → slice_index_or d.units n None ≡ Some Good
 
--- What the event answers that takes the frame at a place of the stretch, where so many misses end a lock.
-pub record Keeps (size patience : ℕ) (line : List (List ℕ)) (sent : List SuperFrame) (place : ℕ) (e : Event) : Type 0 where
-  -- at the fifth frame of a super frame of the stretch it delivers that one as written, but for the first patience - 1 of them
-  pub none_lost : (i : ℕ) (written : SuperFrame) → At sent i written → FifthOf i place → patience ≤ i + 1
+-- What the event answers that takes the frame at a place of the stretch, where so many super frames of it may be lost.
+pub record Keeps (size lost : ℕ) (line : List (List ℕ)) (sent : List SuperFrame) (place : ℕ) (e : Event) : Type 0 where
+  -- at the fifth frame of a super frame of the stretch it delivers that one as written, but for the first of them, as many as may be lost
+  pub none_lost : (i : ℕ) (written : SuperFrame) → At sent i written → FifthOf i place → lost ≤ i
       → AsWritten size (five_at line i) written e
   -- and if it delivers at all, it is at the fifth frame of one, and delivers that one as written
-  pub none_else : (before after : List ℕ) (d : Delivery) → e ≡ pulled before (Ok (Delivered d)) after
+  pub none_else : (lent left : List ℕ) (d : Delivery) → e ≡ pulled lent (Ok (Delivered d)) left
       → (i : ℕ) × (written : SuperFrame) × At sent i written × FifthOf i place × AsWritten size (five_at line i) written e
 
 -- What is supposed of a stretch: a receiver was made for a size over a source, and these events followed, before and after a cut.
-pub record Received (size : ℕ) (source : Source) (past future : List Event) (sent : List SuperFrame) : Type 0 where
+pub record Supposed (size : ℕ) (source : Source) (past future : List Event) (sent : List SuperFrame) : Type 0 where
   pub cut : Reception
   pub after : Reception
   pub earlier : Run (new_receiver size source) past cut
@@ -84,7 +85,7 @@ pub record Received (size : ℕ) (source : Source) (past future : List Event) (s
 -- first having number 0, is delivered as it was written when its fifth frame is taken, and nothing else is delivered.
 abbrev pub BackAfterBadReception : Type 0
 BackAfterBadReception =
-    (size : ℕ) (source : Source) (past future : List Event) (sent : List SuperFrame) (r : Received size source past future sent)
+    (size : ℕ) (source : Source) (past future : List Event) (sent : List SuperFrame) (r : Supposed size source past future sent)
     → NoOtherLegible size (length sent) (frames_taken r.earlier) (frames_taken r.later)
     → (before after : List Event) (e : Event) → future ≡ before ++ e ∷ after → takes e ≡ true → number_taken before < 5 * length sent
-    → Keeps size (patience_after 3 (past ++ until_taken future)) (line_of r.cut future) sent (number_taken before) e
+    → Keeps size (patience_after 3 (past ++ until_taken future) - 1) (line_of r.cut future) sent (number_taken before) e

@@ -1,25 +1,18 @@
 -- The rules of a receiver: which answer a call has, and what it leaves. Each is one constructor.
-use Rattle.std.specs.Prelude.{◌≡◌, ℕ, ◌+◌, ◌*◌, ◌<◌, ◌≤◌, Bool, not, ◌&&◌, List, [], ◌∷◌, ◌++◌, length, drop, Some, None, Ok, Err, Result, nat_le}
+use Rattle.std.specs.Prelude.{◌≡◌, ℕ, ◌+◌, ◌<◌, ◌≤◌, List, [], ◌∷◌, ◌++◌, length, drop, Some, None, Ok, Err, Result}
 use Rattle.std.specs.List.{concat}
 use Rattle.gf.specs.declared.refusal.Refusal.{Refusal}
-use Rattle.gf.specs.declared.refusal.Refusal.TheVariants.{Patience}
 use Rattle.gf.specs.Refusals.{first_refusal}
 use Rattle.sources.specs.Sources.{Source, Offers}
 use Rattle.reception.specs.declared.mode.Mode.TheVariants.{Hunting, Locked}
 use Rattle.reception.specs.declared.answers.Delivery.{Delivery}
 use Rattle.reception.specs.declared.answers.Pulled.TheVariants.{NothingWaiting, Held, Missed, Delivered}
-use Rattle.reception.specs.Receptions.{Reception, taking, report_of, pull_complaints, Event, pulled, offered, restarted, patience_set, reported}
-use Rattle.reception.specs.Blocks.{Delivers, Misses, IsCleanAndLegible}
+use Rattle.reception.specs.Receptions.{Reception, taking, report_of, pull_complaints, patience_complaints, Event, pulled, offered, restarted, patience_set, reported}
+use Rattle.reception.specs.Blocks.{Delivers, Misread, IsCleanAndLegible}
 
 -- A pull with this buffer is not refused.
 abbrev pub Ready : Reception → List ℕ → Type 0
 Ready r buffer = first_refusal (pull_complaints r buffer) ≡ None
-
--- Then the size is in range, the buffer has the length of a block, and the source's frames have theirs.
-pub record PullFits (r : Reception) (buffer : List ℕ) : Type 0 where
-  pub in_range : (1 ≤ r.size) × (r.size ≤ 24)
-  pub buffer_long : length buffer ≡ 120 * r.size
-  pub frames_long : r.source.frame_length ≡ 24 * r.size
 
 -- This frame waits in front of the others.
 abbrev pub InFront : Reception → List ℕ → Type 0
@@ -37,10 +30,7 @@ Fifth r = length r.held + 1 ≡ 5
 abbrev pub received : Reception → List ℕ → List ℕ
 received r frame = concat (with_frame r frame)
 
--- the refusals of setting the patience, each with its condition
-abbrev pub patience_complaints : ℕ → List (Bool × Refusal)
-patience_complaints number = (not (nat_le 1 number && nat_le number 16), Patience) ∷ []
-
+-- From a receiver, by a call and its answer, to the receiver after it. Each constructor is one rule.
 pub data Rule : Reception → Event → Reception → Type 0 where
   -- A pull is refused: nothing is taken, and nothing is changed.
   pull_refused : {r : Reception} {buffer : List ℕ} {refusal : Refusal}
@@ -72,12 +62,12 @@ pub data Rule : Reception → Event → Reception → Type 0 where
   -- Locked, five with it, the block is not legible, and with this miss there are still fewer than the patience: the five frames go.
   misses_one : {r : Reception} {buffer frame : List ℕ} {refusal : Refusal}
       → Ready r buffer → InFront r frame → Fifth r → r.mode ≡ Locked
-      → Misses r.size (received r frame) refusal → r.misses + 1 < r.patience
+      → Misread r.size (received r frame) refusal → r.misses + 1 < r.patience
       → Rule r (pulled buffer (Ok (Missed refusal)) buffer) (taking r Locked [] (r.misses + 1))
   -- The same, and there are as many misses as the patience, or more: the receiver hunts, and the last four frames stay.
   loses_lock : {r : Reception} {buffer frame : List ℕ} {refusal : Refusal}
       → Ready r buffer → InFront r frame → Fifth r → r.mode ≡ Locked
-      → Misses r.size (received r frame) refusal → r.patience ≤ r.misses + 1
+      → Misread r.size (received r frame) refusal → r.patience ≤ r.misses + 1
       → Rule r (pulled buffer (Ok (Missed refusal)) buffer) (taking r Hunting (drop 1 (with_frame r frame)) 0)
   -- An offer goes to the source, with its answer.
   passes_on : {r : Reception} {frame : List ℕ} {after : Source} {answer : Result Unit Refusal}

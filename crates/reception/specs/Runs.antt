@@ -1,8 +1,8 @@
 -- Runs: calls and answers one after another, each by the rules; and what they tell of frames and of the patience.
-use Rattle.std.specs.Prelude.{ℕ, ◌+◌, Bool, true, false, cond, is_ok, List, [], ◌∷◌, ◌++◌, take, Ok, Err}
+use Rattle.std.specs.Prelude.{ℕ, ◌+◌, Bool, true, false, cond, is_ok, List, [], ◌∷◌, ◌++◌, take, Ok}
 use Rattle.reception.specs.declared.answers.Pulled.{Pulled}
-use Rattle.reception.specs.declared.answers.Pulled.TheVariants.{NothingWaiting, Held, Missed, Delivered}
-use Rattle.reception.specs.Receptions.{Reception, Event, pulled, offered, restarted, patience_set, reported}
+use Rattle.reception.specs.declared.answers.Pulled.TheVariants.{NothingWaiting, Delivered}
+use Rattle.reception.specs.Receptions.{Reception, Event, pulled, offered, restarted, patience_set}
 use Rattle.reception.specs.Rules.{Rule}
 
 -- From one receiver to another by these events.
@@ -13,18 +13,12 @@ pub data Run : Reception → List Event → Reception → Type 0 where
 -- whether an answer says that a frame was taken
 abbrev pub with_frame_taken : Pulled → Bool
 with_frame_taken NothingWaiting = false
-with_frame_taken Held = true
-with_frame_taken (Missed refusal) = true
-with_frame_taken (Delivered d) = true
+with_frame_taken answer = true
 
 -- whether the event takes a frame
 abbrev pub takes : Event → Bool
-takes (pulled before (Ok answer) after) = with_frame_taken answer
-takes (pulled before (Err refusal) after) = false
-takes (offered frame answer) = false
-takes restarted = false
-takes (patience_set number answer) = false
-takes (reported told) = false
+takes (pulled lent (Ok answer) left) = with_frame_taken answer
+takes e = false
 
 -- how many frames the events take
 abbrev pub number_taken : List Event → ℕ
@@ -42,11 +36,8 @@ frames_taken (goes_on {r = r} {e = e} rule rest) = frame_taken r e ++ frames_tak
 
 -- the frame that the event puts into the source, if it does
 abbrev pub accepted_by : Event → List (List ℕ)
-accepted_by (pulled before answer after) = []
 accepted_by (offered frame answer) = cond (is_ok answer) (frame ∷ []) []
-accepted_by restarted = []
-accepted_by (patience_set number answer) = []
-accepted_by (reported told) = []
+accepted_by e = []
 
 -- the frames that the events put into the source, in order
 abbrev pub accepted : List Event → List (List ℕ)
@@ -55,11 +46,8 @@ accepted (e ∷ es) = accepted_by e ++ accepted es
 
 -- the patience after an event, where it was p before
 abbrev pub patience_by : Event → ℕ → ℕ
-patience_by (pulled before answer after) p = p
-patience_by (offered frame answer) p = p
-patience_by restarted p = p
 patience_by (patience_set number answer) p = cond (is_ok answer) number p
-patience_by (reported told) p = p
+patience_by e p = p
 
 -- the patience after events: the last that was accepted, or else as before
 abbrev pub patience_after : ℕ → List Event → ℕ
@@ -68,38 +56,26 @@ patience_after p (e ∷ es) = patience_after (patience_by e p) es
 
 -- whether the event is a reset, or sets the patience
 abbrev pub disturbs : Event → Bool
-disturbs (pulled before answer after) = false
-disturbs (offered frame answer) = false
 disturbs restarted = true
 disturbs (patience_set number answer) = is_ok answer
-disturbs (reported told) = false
+disturbs e = false
 
 -- the events before the first that takes a frame
 abbrev pub until_taken : List Event → List Event
 until_taken [] = []
 until_taken (e ∷ es) = cond (takes e) [] (e ∷ until_taken es)
 
--- whether the event delivers
-abbrev pub delivers : Event → Bool
-delivers (pulled before (Ok NothingWaiting) after) = false
-delivers (pulled before (Ok Held) after) = false
-delivers (pulled before (Ok (Missed refusal)) after) = false
-delivers (pulled before (Ok (Delivered d)) after) = true
-delivers (pulled before (Err refusal) after) = false
-delivers (offered frame answer) = false
-delivers restarted = false
-delivers (patience_set number answer) = false
-delivers (reported told) = false
+-- whether the event is a delivery
+abbrev pub is_delivery : Event → Bool
+is_delivery (pulled lent (Ok (Delivered d)) left) = true
+is_delivery e = false
 
 -- whether the event is a reset
 abbrev pub is_reset : Event → Bool
-is_reset (pulled before answer after) = false
-is_reset (offered frame answer) = false
 is_reset restarted = true
-is_reset (patience_set number answer) = false
-is_reset (reported told) = false
+is_reset e = false
 
 -- whether there was a delivery since the beginning, or since the last reset; `before` says whether there was one before these events
 abbrev pub found : Bool → List Event → Bool
 found before [] = before
-found before (e ∷ es) = found (cond (is_reset e) false (cond (delivers e) true before)) es
+found before (e ∷ es) = found (cond (is_reset e) false (cond (is_delivery e) true before)) es

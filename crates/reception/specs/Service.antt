@@ -9,7 +9,7 @@ use Rattle.reception.specs.Receptions.{Reception, new_receiver, Asked, pull, off
 use Rattle.reception.specs.Blocks.{SuperFrame, IsCleanAndLegible}
 use Rattle.reception.specs.Rules.{Ready, Rule}
 use Rattle.reception.specs.Runs.{Run, takes, number_taken, frames_taken, found}
-use Rattle.reception.specs.Recovery.{line_of, Keeps, Received}
+use Rattle.reception.specs.Recovery.{line_of, Keeps, Supposed}
 
 -- The line is served: a pull that is not refused, made while the line has a frame that is not taken yet, takes a frame.
 abbrev pub LineServed : Type 0
@@ -28,11 +28,11 @@ NoFalseBoundary size taken_before taken_later =
 -- first one is complete.
 abbrev pub NothingLostWhileHunting : Type 0
 NothingLostWhileHunting =
-    (size : ℕ) (source : Source) (past future : List Event) (sent : List SuperFrame) (r : Received size source past future sent)
+    (size : ℕ) (source : Source) (past future : List Event) (sent : List SuperFrame) (r : Supposed size source past future sent)
     → (found false past ≡ false) ⊎ (r.cut.mode ≡ Hunting)
     → NoFalseBoundary size (frames_taken r.earlier) (frames_taken r.later)
     → (before after : List Event) (e : Event) → future ≡ before ++ e ∷ after → takes e ≡ true → number_taken before < 5 * length sent
-    → Keeps size 1 (line_of r.cut future) sent (number_taken before) e
+    → Keeps size 0 (line_of r.cut future) sent (number_taken before) e
 
 -- What every receiver keeps that is given frames of bytes: at most four frames are held, and those that are held or wait have their length.
 pub record Sound (r : Reception) : Type 0 where

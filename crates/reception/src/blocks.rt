@@ -2,7 +2,8 @@
 ghost use Rattle.std.specs.Prelude.{◌≡◌, ◌*◌, ◌≤◌, length, MatchOption, MatchResult};
 ghost use Rattle.interleaver.specs.Rows.{AreBytes};
 ghost use Rattle.block.specs.States.{header_of};
-ghost use Rattle.reception.specs.Blocks.{state_of_unit, states_of_units, Delivers, Misses, Reads, IsCleanAndLegible};
+ghost use Rattle.reception.specs.Blocks.{state_of_unit, states_of_units, Delivers, Misread, IsCleanAndLegible};
+ghost use Rattle.reception.specs.Stages.{Reads};
 
 use crate::answers::{Delivery, UnitState};
 use crate::sizes::MAX_BLOCK_BYTES;
@@ -50,7 +51,7 @@ fn read_repaired(repaired: Repaired, repair: Repair, block: &[u8]) -> Result<Del
 fn open_block(size: usize, block: &mut [u8]) -> Result<Delivery, Refusal>
     requires size { (1 ≤ size) × (size ≤ 24) }
     requires long { length block.old ≡ 120 * size }
-    ensures { AreBytes block.new → MatchResult result (λ d. Delivers size block.old d block.new) (Misses size block.old) }
+    ensures { AreBytes block.new → MatchResult result (λ d. Delivers size block.old d block.new) (Misread size block.old) }
 {
     let (repaired, repair) = Received::new(size)?.repair(block)?;
     read_repaired(repaired, repair, block)
@@ -60,7 +61,7 @@ fn open_block(size: usize, block: &mut [u8]) -> Result<Delivery, Refusal>
 fn read_block(size: usize, received: &[u8], block: &mut [u8]) -> Result<Delivery, Refusal>
     requires size { (1 ≤ size) × (size ≤ 24) }
     requires long { (length received.now ≡ 120 * size) × (length block.old ≡ 120 * size) }
-    ensures { MatchResult result (λ d. Delivers size received.now d block.new) (Misses size received.now) }
+    ensures { MatchResult result (λ d. Delivers size received.now d block.new) (Misread size received.now) }
 {
     block.copy_from_slice(received);
     open_block(size, block)
@@ -75,7 +76,7 @@ pub(crate) fn deliver_block(
     requires size { (1 ≤ size) × (size ≤ 24) }
     requires long { (length received.now ≡ 120 * size) × (length buffer.old ≡ 120 * size) }
     ensures { MatchResult result (λ d. Delivers size received.now d buffer.new)
-        (λ refusal. Misses size received.now refusal × (buffer.new ≡ buffer.old)) }
+        (λ refusal. Misread size received.now refusal × (buffer.new ≡ buffer.old)) }
 {
     let mut work = [0; MAX_BLOCK_BYTES];
     let block = &mut work[..received.len()];

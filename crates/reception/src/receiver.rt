@@ -1,8 +1,9 @@
 // The receiver: it finds the boundary of super frames among the frames of a source, and follows it.
 ghost use Rattle.std.specs.Prelude.{◌≡◌, ◌≤◌};
 ghost use Rattle.gf.specs.Refusals.{unless, Answers};
-ghost use Rattle.reception.specs.Receptions.{new_receiver, receiver_complaints, pull_complaints, pulled, offered, restarted, patience_set, reported};
-ghost use Rattle.reception.specs.Rules.{Rule, PullFits, patience_complaints};
+ghost use Rattle.reception.specs.Receptions.{new_receiver, receiver_complaints, pull_complaints, patience_complaints, pulled, offered, restarted, patience_set, reported};
+ghost use Rattle.reception.specs.Rules.{Rule};
+ghost use Rattle.reception.specs.Stages.{PullFits};
 
 use crate::answers::{Pulled, Report};
 use crate::blocks::{deliver_block, deliver_clean_block};
@@ -13,9 +14,10 @@ use gf::Refusal;
 use sources::{FrameSource, Next};
 use std::marker::Model;
 
-// How many misses in a row end the lock of a new receiver, and of any at most.
+// How many misses in a row end the lock of a new receiver.
 const PATIENCE: usize = 3;
 
+// And how many it may be set to.
 const MAX_PATIENCE: usize = 16;
 
 // Whether so many misses may end a lock.

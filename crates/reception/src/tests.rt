@@ -63,7 +63,7 @@ fn after_a_foreign_frame_it_is_back(rt: HostRuntime) {
             receive(&mut receiver, &[0x55; 24], &mut buffer),
             Ok(Pulled::Held)
         );
-        // Misses at frames 4, 9, 14 and so on, and the next frame after the last of them is delivered.
+        // Misread at frames 4, 9, 14 and so on, and the next frame after the last of them is delivered.
         for number in 1..5 * patience + 1 {
             let place = (number - 1) % 5 * 24;
             let answer = receive(&mut receiver, &block[place..place + 24], &mut buffer);

@@ -6,9 +6,10 @@ use Rattle.std.proofs.lemmas.Result.{err_from_is_err_and}
 use Rattle.sources.specs.declared.source.Next.TheVariants.{Frame}
 use Rattle.reception.specs.declared.mode.Mode.TheVariants.{Hunting, Locked}
 use Rattle.reception.specs.Receptions.{Reception, pulled}
-use Rattle.reception.specs.Blocks.{Delivers, Misses, IsCleanAndLegible}
+use Rattle.reception.specs.Blocks.{Delivers, Misread, IsCleanAndLegible}
 use Rattle.reception.specs.Holding.{Holding}
-use Rattle.reception.specs.Rules.{Rule, Ready, PullFits, Fifth, received, pull_refused, nothing_waits, gathers, finds, passes_by, follows, misses_one, loses_lock}
+use Rattle.reception.specs.Rules.{Rule, Ready, Fifth, received, pull_refused, nothing_waits, gathers, finds, passes_by, follows, misses_one, loses_lock}
+use Rattle.reception.specs.Stages.{PullFits}
 use Rattle.reception.proofs.Ruling.{same_receiver, same_buffer, Took, took, took_length, none_waits, unchanged, block_long, four_left, taken_to}
 use Rattle.reception.proofs.receiver.Receiver.pull.Given.{Over}
 use Rattle.reception.proofs.receiver.Receiver.pull.Goals.{In-Frame}
@@ -152,7 +153,7 @@ returns-then-self g c =
     (taken_to Locked c.self.inside.mode [] c.clear-then-self.new.self.frames (c.self.inside.misses + 1) _ t.source_is c.in-Locked-default.is-0
     (ap (λ (h : Holding). h.frames) c.clear-then-self.ensures)
     (misses_one (ready g k) t.in_front (fifth g k many) c.in-Locked-default.is-0
-    (subst (λ (b : List ℕ). Misses c.self.inside.size b c.in-Err.refusal) (block g k _ c.bytes-in-Locked-default.ensures.bytes) c.in-Err.ensures.0) c.if-self.true)))
+    (subst (λ (b : List ℕ). Misread c.self.inside.size b c.in-Err.refusal) (block g k _ c.bytes-in-Locked-default.ensures.bytes) c.in-Err.ensures.0) c.if-self.true)))
 
 pub returns-else-self : goal.returns-else-self
 returns-else-self g c =
@@ -164,4 +165,4 @@ returns-else-self g c =
     (taken_to Hunting Hunting _ c.drop_oldest-else-self.new.self.frames 0 _ t.source_is refl
     (ap (λ (h : Holding). h.frames) c.drop_oldest-else-self.ensures ∙ ap (drop 1) t.held_is)
     (loses_lock (ready g k) t.in_front (fifth g k many) c.in-Locked-default.is-0
-    (subst (λ (b : List ℕ). Misses c.self.inside.size b c.in-Err.refusal) (block g k _ c.bytes-in-Locked-default.ensures.bytes) c.in-Err.ensures.0) c.if-self.false)))
+    (subst (λ (b : List ℕ). Misread c.self.inside.size b c.in-Err.refusal) (block g k _ c.bytes-in-Locked-default.ensures.bytes) c.in-Err.ensures.0) c.if-self.false)))
