@@ -1,0 +1,3 @@
+mod Summing
+mod Planning
+mod Replaying

@@ -1,0 +1,94 @@
+-- Recordings that meet what the laws over runs suppose, and what the laws then say of every run over them.
+use Rattle.std.specs.Prelude.{◌≡◌, ◌≢◌, ℕ, ◌+◌, ◌-◌, ◌*◌, ◌/◌, ◌%◌, ◌<◌, ◌≤◌, true, List, [], ◌∷◌, ◌++◌, length, Ok, slice_range}
+use Rattle.interleaver.specs.declared.repair.Repair.{Repair}
+use Rattle.interleaver.specs.Rows.{AreBytes}
+use Rattle.block.specs.declared.header.Header.{Header}
+use Rattle.block.specs.declared.reader.Opened.{Opened}
+use Rattle.block.specs.Headers.{header, unit_count, check_fits}
+use Rattle.block.specs.Laws.{Flawless}
+use Rattle.block.specs.States.{header_of}
+use Rattle.sources.specs.Recordings.{recording_source}
+use Rattle.reception.specs.Receptions.{Reception, new_receiver, Event}
+use Rattle.reception.specs.Blocks.{RepairOf, IsLegible, SuperFrame}
+use Rattle.reception.specs.Runs.{Run, takes, number_taken, frames_taken, patience_after, until_taken}
+use Rattle.reception.specs.Recovery.{At, line_of, Stretch, Undisturbed, FifthOf, NoOtherLegible, AsWritten, Keeps}
+use Rattle.reception.specs.Service.{NoFalseBoundary}
+
+-- The block is what repairing the received one gives, and its header is read.
+pub record Reads (size : ℕ) (received block : List ℕ) (opened : Opened) (repair : Repair) : Type 0 where
+  pub repaired : RepairOf size received block repair
+  pub header_is : header size block ≡ Ok (header_of opened)
+
+-- the check of every unit is right
+abbrev pub AllGood : Header → List ℕ → Type 0
+AllGood h block = (n : ℕ) → n < unit_count h → check_fits h block n ≡ true
+
+-- A block of bytes that is a super frame as it was written.
+pub record Written (size : ℕ) (block : List ℕ) : Type 0 where
+  pub bytes : AreBytes block
+  pub long : length block ≡ 120 * size
+  pub header : Header
+  pub flawless : Flawless size block header
+
+-- the bytes of five frames in a row of a recording, the first of them frame `place`
+abbrev pub five_frames : ℕ → List ℕ → ℕ → List ℕ
+five_frames size bytes place = slice_range bytes (place * (24 * size)) (place * (24 * size) + 120 * size)
+
+-- At every fifth place a super frame begins as it was written; from any other place on, five frames are not legible.
+pub record AsSent (size : ℕ) (bytes : List ℕ) (place : ℕ) : Type 0 where
+  pub begins : place % 5 ≡ 0 → Written size (five_frames size bytes place)
+  pub between : place % 5 ≢ 0 → IsLegible size (five_frames size bytes place) → ⊥
+
+-- so from every place on, as long as five whole frames follow
+abbrev pub IsStretch : ℕ → List ℕ → Type 0
+IsStretch size bytes = (place : ℕ) → place + 5 ≤ length bytes / (24 * size) → AsSent size bytes place
+
+-- a new receiver over a recording
+abbrev pub receiver_over : ℕ → List ℕ → Reception
+receiver_over size bytes = new_receiver size (recording_source (24 * size) bytes)
+
+-- The recording is an instance of the laws over runs: every run of a new receiver over it, whatever it is asked, meets what they suppose, with
+-- nothing before the cut, if only no reset and no new patience come between its first frame and the last.
+pub record Instance (size count : ℕ) (bytes : List ℕ) : Type 0 where
+  -- so many super frames were sent, and stand in the recording as they were written
+  pub sent : List SuperFrame
+  pub counted : length sent ≡ count
+  pub in_place : {i : ℕ} {written : SuperFrame} → At sent i written → written.block ≡ five_frames size bytes (5 * i)
+  -- what the laws suppose
+  pub stretch : (events : List Event) → Stretch size (line_of (receiver_over size bytes) events) sent
+  pub no_other_legible : {events : List Event} {after : Reception} (run : Run (receiver_over size bytes) events after)
+      → NoOtherLegible size count [] (frames_taken run)
+  pub no_false_boundary : {events : List Event} {after : Reception} (run : Run (receiver_over size bytes) events after)
+      → NoFalseBoundary size [] (frames_taken run)
+  -- what the law of recovery then says
+  pub back : {events : List Event} {after : Reception} → Run (receiver_over size bytes) events after → Undisturbed count events
+      → (before later : List Event) (e : Event) → events ≡ before ++ e ∷ later → takes e ≡ true → number_taken before < 5 * count
+      → Keeps size (patience_after 3 (until_taken events) - 1) (line_of (receiver_over size bytes) events) sent (number_taken before) e
+  -- and the law of hunting: each super frame is delivered as it was written when its fifth frame is taken
+  pub delivered : {events : List Event} {after : Reception} → Run (receiver_over size bytes) events after → Undisturbed count events
+      → (before later : List Event) (e : Event) → events ≡ before ++ e ∷ later → takes e ≡ true
+      → {i : ℕ} {written : SuperFrame} → At sent i written → FifthOf i (number_taken before) → AsWritten size written.block written e
+
+-- A run of a new receiver over the recording, in which every whole frame is taken and nothing disturbs.
+pub record WholeRun (size : ℕ) (bytes : List ℕ) : Type 0 where
+  pub events : List Event
+  pub after : Reception
+  pub run : Run (receiver_over size bytes) events after
+  pub all_taken : number_taken events ≡ length bytes / (24 * size)
+  pub undisturbed : (super_frames : ℕ) → Undisturbed super_frames events
+
+-- One of the events takes the fifth frame of super frame i, and delivers it as it was written.
+pub record DeliveredIn (size : ℕ) (events : List Event) (i : ℕ) (written : SuperFrame) : Type 0 where
+  pub before : List Event
+  pub later : List Event
+  pub e : Event
+  pub among : events ≡ before ++ e ∷ later
+  pub taken : takes e ≡ true
+  pub fifth : FifthOf i (number_taken before)
+  pub as_written : AsWritten size written.block written e
+
+-- The recording is an instance of the laws, and there is a run over it in which every super frame is delivered as it was written.
+pub record Demonstrated (size count : ℕ) (bytes : List ℕ) : Type 0 where
+  pub instance : Instance size count bytes
+  pub whole : WholeRun size bytes
+  pub all : {i : ℕ} {written : SuperFrame} → At instance.sent i written → DeliveredIn size whole.events i written

@@ -1,0 +1,2 @@
+-- What recordings are said to be.
+pub mod Instances

@@ -1,0 +1,51 @@
+// Trying a recording: whether it is what the laws over runs suppose, and what a receiver then makes of it.
+ghost use Rattle.std.specs.Prelude.{IfOk, MatchOption};
+ghost use Rattle.stretches.specs.Instances.{IsStretch, Demonstrated};
+
+use crate::failure::Failure;
+use crate::receiving::{Tally, receive};
+use crate::stretch::find_stretch;
+use std::alloc::Global;
+use std::fmt;
+
+// What came of a recording that is what the laws suppose.
+#[derive(Clone, Copy)]
+pub struct Trial {
+    super_frames: usize,
+    tally: Tally,
+}
+
+// Tries a recording; none comes of it where it is not what the laws suppose.
+pub fn try_recording(alloc: Global, size: usize, recording: &[u8]) -> Result<Option<Trial>, Failure>
+    ensures { IfOk result (λ tried. MatchOption tried (IsStretch size recording.now → ⊥) (λ trial. Demonstrated size trial.super_frames recording.now)) }
+{
+    let Some(super_frames) = find_stretch(size, recording)? else {
+        return Ok(None);
+    };
+    let tally = receive(alloc, size, recording)?;
+    Ok(Some(Trial {
+        super_frames,
+        tally,
+    }))
+}
+
+impl fmt::Display for Trial {
+    fn fmt<W: fmt::Write>(&self, f: &mut fmt::Formatter<W>) -> fmt::Result {
+        let Trial {
+            super_frames,
+            tally,
+        } = *self;
+        let Tally {
+            as_written,
+            otherwise,
+        } = tally;
+        write!(f, "{super_frames} super frames, the premises hold, ")?;
+        if as_written == super_frames && otherwise == 0 {
+            return write!(f, "all delivered as written");
+        }
+        write!(
+            f,
+            "{as_written} delivered as written, {otherwise} otherwise"
+        )
+    }
+}
