@@ -6,7 +6,8 @@ use std::env;
 pub const USAGE: &str = "usage: dabreceive SIZE [FILE] [--patience P] [--script FILE] [--units DIR]
 
 Finds the super frames in a recording of logical frames, and follows them. Hands in one frame after the other, and prints what came
-of each: held, missed, or the end of a super frame that is delivered; and at the end the sum of it all.
+of each: held, missed, or the end of a super frame that is delivered; and at the end the sum of it all. Of a long recording it shows
+on standard error how far it has come, where that is a terminal.
 SIZE is the subchannel index, 1 to 24: a frame has 24 times as many bytes.
 FILE has frame after frame; without it they are read from standard input, to its end. An unfinished last frame is left out.
 --patience P: P misses in a row end a lock, 1 to 16; 3 where it is left out.

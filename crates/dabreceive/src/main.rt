@@ -8,6 +8,7 @@ mod failure;
 mod files;
 mod lines;
 mod plan;
+mod progress;
 mod receiving;
 mod reporting;
 mod script;
@@ -19,6 +20,7 @@ use failure::Failure;
 use files::{make_folder, read_bytes, read_text};
 use plan::{Plan, script_plan};
 use programs::exit_code;
+use progress::Progress;
 use receiving::{make_calls, replay};
 use reporting::{Lines, Reporting};
 use script::{Command, parse_script};
@@ -46,7 +48,8 @@ fn receive_all(rt: &HostRuntime, order: Order) -> Result<(), Failure> {
         ..
     } = order;
     let recording = read_bytes(rt, file)?;
-    let mut report = open_report(rt, units, Lines::Frames)?;
+    let progress = Progress::new(rt, recording.len() / size.frame_length());
+    let mut report = open_report(rt, units, Lines::Frames(progress))?;
     replay(rt.alloc(), size, patience, &recording, &mut report)?;
     report.finish()
 }

@@ -5,6 +5,7 @@ use crate::answer::Answer;
 use crate::failure::Failure;
 use crate::files::write_good_units;
 use crate::lines::ScriptLines;
+use crate::progress::Progress;
 use crate::summary::Summary;
 use reception::{Call, Listener, Outcome, Pulled};
 
@@ -12,7 +13,7 @@ use reception::{Call, Listener, Outcome, Pulled};
 #[derive(Drop)]
 pub enum Lines<'s> {
     // One for each frame that is taken.
-    Frames,
+    Frames(Progress),
     Script(ScriptLines<'s>),
 }
 
@@ -55,9 +56,10 @@ impl<'a> Reporting<'a> {
         ensures { (self.new.summary ≡ self.old.summary) × (self.new.failure ≡ self.old.failure) }
     {
         match &mut self.lines {
-            Lines::Frames => {
+            Lines::Frames(progress) => {
                 if let Some(answer) = of_frame(outcome) {
                     println!(self.rt; "{number}: {answer}")?;
+                    progress.show(self.rt, number.saturating_add(1))?;
                 }
                 Ok(())
             }
