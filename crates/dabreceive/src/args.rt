@@ -17,7 +17,8 @@ it is not there: super-frame-NNNN-unit-M.au has the bytes of unit M of super fra
   pull              takes the next frame, with a buffer for a block
   pull 100          the same with a buffer of so many bytes
   offer 12          hands in the next so many frames of the recording, or all that are left; it is read only where such a line stands
-  offer 0x00ff      hands in these bytes, pairs of hexadecimal digits
+  offer 00ff        hands in these bytes, pairs of hexadecimal digits; 0x may stand before them, and has to before nine decimal digits
+                    or fewer
   reset             starts over
   patience 2        from now on so many misses in a row end a lock
   report            says where the receiver stands

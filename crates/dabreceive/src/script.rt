@@ -3,6 +3,9 @@ use crate::failure::{Failure, Fault};
 use std::alloc::{AllocError, Global};
 use std::fmt;
 
+// How many digits a number of frames has at most.
+const COUNT_DIGITS: usize = 9;
+
 // What a line of a script asks for.
 #[derive(Drop, Debug)]
 pub enum Command {
@@ -78,17 +81,26 @@ fn parse_pull(alloc: Global, behind: &str) -> Result<Command, Fault> {
     }
 }
 
+// Whether a word is read as a number of frames: decimal digits, at most as many as these. Other pairs of hexadecimal digits are bytes.
+fn is_count(word: &str) -> bool {
+    !word.is_empty()
+        && word.len() <= COUNT_DIGITS
+        && word.as_bytes().iter().all(|byte| byte.is_ascii_digit())
+}
+
 fn parse_offer(alloc: Global, behind: &str) -> Result<Command, Fault> {
     let command = match behind.strip_prefix("0x") {
         Some(digits) => parse_pairs(alloc, digits)?.map(Command::OfferBytes),
-        None => parse_number(behind).map(Command::OfferFrames),
+        None if is_count(behind) => parse_number(behind).map(Command::OfferFrames),
+        None if behind.is_empty() => None,
+        None => parse_pairs(alloc, behind)?.map(Command::OfferBytes),
     };
     match command {
         Some(command) => Ok(command),
         None => Err(wrong_behind(
             alloc,
             "offer",
-            "a number of frames, or 0x and pairs of hexadecimal digits",
+            "a number of frames, or pairs of hexadecimal digits",
             behind,
         )),
     }
@@ -151,6 +163,16 @@ pub fn parse_script(alloc: Global, text: &str) -> Result<Vec<Command>, Failure> 
     Ok(commands)
 }
 
+// What stands before bytes whose digits alone could be read as a number of frames, or where there are none.
+fn prefix_of(bytes: &[u8]) -> &'static str {
+    let is_decimal = bytes.iter().all(|byte| byte / 16 < 10 && byte % 16 < 10);
+    if is_decimal && bytes.len() * 2 <= COUNT_DIGITS {
+        "0x"
+    } else {
+        ""
+    }
+}
+
 // The line of a script that asks for it.
 impl fmt::Display for Command {
     fn fmt<W: fmt::Write>(&self, f: &mut fmt::Formatter<W>) -> fmt::Result {
@@ -159,7 +181,7 @@ impl fmt::Display for Command {
             Self::PullInto(length) => write!(f, "pull {length}"),
             Self::OfferFrames(count) => write!(f, "offer {count}"),
             Self::OfferBytes(bytes) => {
-                write!(f, "offer 0x")?;
+                write!(f, "offer {}", prefix_of(bytes))?;
                 for byte in bytes {
                     write!(f, "{byte:02x}")?;
                 }
