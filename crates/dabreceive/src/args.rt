@@ -1,13 +1,14 @@
 // The words of the call.
 use crate::failure::Failure;
+use crate::script::parse_number;
 use programs::SubchannelIndex;
 use std::env;
 
 pub const USAGE: &str = "usage: dabreceive SIZE [FILE] [--patience P] [--script FILE] [--units DIR]
 
 Finds the super frames in a recording of logical frames, and follows them. Hands in one frame after the other, and prints what came
-of each: held, missed, or the end of a super frame that is delivered; and at the end the sum of it all. Of a long recording it shows
-on standard error how far it has come, where that is a terminal.
+of each: held, missed, or the end of a super frame that is delivered; and at the end the sum of it all. Without --script it shows of a
+long recording on standard error how far it has come, where that is a terminal.
 SIZE is the subchannel index, 1 to 24: a frame has 24 times as many bytes.
 FILE has frame after frame; without it they are read from standard input, to its end. An unfinished last frame is left out.
 --patience P: P misses in a row end a lock, 1 to 16; 3 where it is left out.
@@ -16,9 +17,10 @@ it is not there: super-frame-NNNN-unit-M.au has the bytes of unit M of super fra
 --script FILE makes the calls that stand in FILE, one a line, and prints of each line what came of it:
   pull              takes the next frame, with a buffer for a block
   pull 100          the same with a buffer of so many bytes
-  offer 12          hands in the next so many frames of the recording, or all that are left; it is read only where such a line stands
-  offer 00ff        hands in these bytes, pairs of hexadecimal digits; 0x may stand before them, and has to before nine decimal digits
-                    or fewer
+  offer 12          hands in the next so many frames of the recording, or all that are left, to a queue of 32 places, where a frame that
+                    finds no place is lost; the recording is read only if the script has such a line
+  offer 00ff        hands in these bytes, pairs of hexadecimal digits; 0x may stand before them, and has to before fewer than 48
+                    decimal digits
   reset             starts over
   patience 2        from now on so many misses in a row end a lock
   report            says where the receiver stands
@@ -84,8 +86,8 @@ impl Setting {
 
 // The number behind --patience.
 fn parse_patience(word: String) -> Result<usize, Failure> {
-    match word.as_str().parse::<usize>() {
-        Ok(patience) if (1..=16).contains(&patience) => Ok(patience),
+    match parse_number(word.as_str()) {
+        Some(patience) if (1..=16).contains(&patience) => Ok(patience),
         _ => Err(Failure::Patience(word)),
     }
 }

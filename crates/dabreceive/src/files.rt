@@ -48,6 +48,7 @@ fn unit_bytes<'b>(delivery: &Delivery, block: &'b [u8], n: usize) -> Result<&'b 
     block
         .get(stands.place..)
         .and_then(|rest| rest.get(..stands.length))
+        // The units of a header that was read stand in its block.
         .ok_or(Refusal::Index)
 }
 

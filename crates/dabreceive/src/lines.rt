@@ -47,6 +47,7 @@ impl fmt::Display for Line<'_> {
                 let answer = Answer(outcome);
                 write!(f, "{answer}")
             }
+            // A line is printed once its calls are answered, and any other line has one.
             (_, None) => Ok(()),
         }
     }

@@ -48,7 +48,7 @@ fn receive_all(rt: &HostRuntime, order: Order) -> Result<(), Failure> {
         ..
     } = order;
     let recording = read_bytes(rt, file)?;
-    let progress = Progress::new(rt, recording.len() / size.frame_length());
+    let progress = Progress::new(rt, size, recording.len());
     let mut report = open_report(rt, units, Lines::Frames(progress))?;
     replay(rt.alloc(), size, patience, &recording, &mut report)?;
     report.finish()

@@ -132,7 +132,7 @@ pub struct Plan<'s> {
     pub lines: ScriptLines<'s>,
 }
 
-// Sets the patience where it is given, and then makes the calls of a script. It is offered frames of the recording.
+// Sets the patience where it is given, and then makes the calls of a script. Its lines offer frames of the recording.
 pub fn script_plan<'s>(
     alloc: Global,
     size: SubchannelIndex,

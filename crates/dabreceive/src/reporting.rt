@@ -100,10 +100,13 @@ impl<'a> Reporting<'a> {
         if let Some(failure) = failure {
             return Err(failure);
         }
-        if let Lines::Script(mut lines) = lines {
-            lines.print_answered(rt)?;
+        match lines {
+            Lines::Script(mut lines) => {
+                lines.print_answered(rt)?;
+                println!(rt; "{summary}")?;
+            }
+            Lines::Frames(progress) => println!(rt; "{summary}{}", progress.end())?,
         }
-        println!(rt; "{summary}")?;
         Ok(())
     }
 }

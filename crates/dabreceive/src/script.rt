@@ -3,8 +3,8 @@ use crate::failure::{Failure, Fault};
 use std::alloc::{AllocError, Global};
 use std::fmt;
 
-// How many digits a number of frames has at most.
-const COUNT_DIGITS: usize = 9;
+// How many digits a number of frames has at most. The bytes of a frame have one more at least.
+const COUNT_DIGITS: usize = 47;
 
 // What a line of a script asks for.
 #[derive(Drop, Debug)]
@@ -30,7 +30,7 @@ fn split_word(text: &str) -> (&str, &str) {
 }
 
 // The number that a word of digits writes.
-fn parse_number(word: &str) -> Option<usize> {
+pub fn parse_number(word: &str) -> Option<usize> {
     if word.starts_with('+') {
         return None;
     }
@@ -81,7 +81,8 @@ fn parse_pull(alloc: Global, behind: &str) -> Result<Command, Fault> {
     }
 }
 
-// Whether a word is read as a number of frames: decimal digits, at most as many as these. Other pairs of hexadecimal digits are bytes.
+// Whether a word is read as a number of frames: it has decimal digits alone, and at most `COUNT_DIGITS` of them. Other pairs of digits are
+// bytes.
 fn is_count(word: &str) -> bool {
     !word.is_empty()
         && word.len() <= COUNT_DIGITS

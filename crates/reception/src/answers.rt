@@ -17,7 +17,7 @@ pub struct Delivery {
     pub header: Header,
     // What correcting its rows did.
     pub repair: Repair,
-    // Of each unit, then none.
+    // What the check of each unit says, and `None` behind the last.
     pub units: [Option<UnitState>; 6],
 }
 

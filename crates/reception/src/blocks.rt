@@ -57,7 +57,7 @@ fn open_block(size: usize, block: &mut [u8]) -> Result<Delivery, Refusal>
     read_repaired(repaired, repair, block)
 }
 
-// The same of bytes that stay as they were received; `block` holds the repaired ones then.
+// As `open_block`, but it works on a copy in `block`.
 fn read_block(size: usize, received: &[u8], block: &mut [u8]) -> Result<Delivery, Refusal>
     requires size { (1 ≤ size) × (size ≤ 24) }
     requires long { (length received.now ≡ 120 * size) × (length block.old ≡ 120 * size) }
@@ -85,7 +85,7 @@ pub(crate) fn deliver_block(
     Ok(delivery)
 }
 
-// Repairs a block that was received, if no row is left, and reads what it says.
+// Repairs a block that was received, and reads what it says; or stops at the first row that is left, and answers nothing.
 fn open_clean_block(size: usize, block: &mut [u8]) -> Option<Delivery>
     requires size { (1 ≤ size) × (size ≤ 24) }
     requires long { length block.old ≡ 120 * size }
@@ -103,7 +103,8 @@ fn open_clean_block(size: usize, block: &mut [u8]) -> Option<Delivery>
     read_repaired(repaired, repair, block).ok()
 }
 
-// As `deliver_block`, if no row is left.
+// Repairs a block that was received, reads what it says, and writes it over the buffer; or answers nothing where a row is left, or where
+// the header is refused.
 pub(crate) fn deliver_clean_block(
     size: usize,
     received: &[u8],

@@ -5,8 +5,8 @@ use gf::Refusal;
 // A call of a receiver.
 #[derive(Clone, Copy, Debug)]
 pub enum Call<'a> {
-    // With so many of the first bytes of the buffer that `drive` is lent, or all of them where they are fewer. So one that is a byte longer
-    // than a block lets every wrong length be refused.
+    // With so many of the first bytes of the buffer that `drive` is lent, or all of them where they are fewer. So a buffer that is a
+    // byte longer than a block lets every wrong length be refused.
     Pull { length: usize },
     Offer(&'a [u8]),
     Reset,

@@ -45,7 +45,8 @@ impl<S: FrameSource> Receiver<S> {
 }
 
 // Makes a receiver of this size over the source, runs the calls on it, tells the listener of each what came of it, and gives the source
-// back. Each pull is lent the first bytes of the buffer, as many as the call says, or all of them.
+// back. Each pull is lent the first bytes of the buffer, as many as the call says, or all of them. `F` serves the contract alone, which says
+// of it what correcting a word comes to.
 pub fn drive<F: Field, S: FrameSource, L: Listener>(
     size: usize,
     source: S,

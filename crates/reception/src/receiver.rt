@@ -17,7 +17,7 @@ use std::marker::Model;
 // How many misses in a row end the lock of a new receiver.
 const PATIENCE: usize = 3;
 
-// And how many it may be set to.
+// The greatest patience.
 const MAX_PATIENCE: usize = 16;
 
 // Whether so many misses may end a lock.
@@ -79,6 +79,7 @@ impl<S: FrameSource> Receiver<S> {
     pub fn new(size: usize, source: S) -> Receiver<S>
         ensures { result ≡ new_receiver size (S.meaning source) }
     {
+        // With a size above 24 no pull is answered, and no frame is held.
         let frame_length = if size <= MAX_SIZE {
             FRAME_BYTES * size
         } else {
