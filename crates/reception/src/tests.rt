@@ -137,7 +137,11 @@ fn over_a_recording(rt: HostRuntime) {
         match receiver.pull(&mut buffer) {
             Ok(Pulled::Delivered(delivery)) => {
                 assert!(rt; number == 5 || number == 10, "frame {number}");
-                assert_eq!(rt; delivery.repair.changed, usize::from(number == 10), "bytes changed");
+                assert_eq!(rt;
+                    delivery.repair.changed,
+                    usize::from(number == 10),
+                    "bytes changed"
+                );
                 assert_eq!(rt; delivery.units[1], Some(UnitState::Good));
                 assert_eq!(rt; delivery.units[2], None);
                 assert_eq!(rt; buffer, block);
