@@ -3,7 +3,7 @@ use Rattle.std.proofs.Common.{◌≡◌, ℕ, zero, suc, ◌+◌, ◌*◌, ◌�
 use lib.ListN.{length-replicate, replicate-append-replicate}
 use Rattle.gf.specs.Bits.{Bits}
 use Rattle.gf.specs.Fields.{gf2}
-use Rattle.gf.specs.FieldLaws.{laws2}
+use Rattle.gf.specs.laws.FieldLaws.{laws2}
 use Rattle.codes.specs.Polynomials.{zeros, over}
 use Rattle.codes.specs.Division.{remainder_of, admitted}
 use Rattle.codes.proofs.Lists.{cons, length_over, over_comm, over_zeros}

@@ -15,7 +15,7 @@ use Rattle.block.specs.Headers.{start, starts, crowded, fire_fits, fills, writte
 use Rattle.block.specs.SuperFrames.{two_bytes, checked_units, unit_starts, digits, packed, parameter_byte, layout_for, behind_fire, super_frame_data, all_row_checks, superframe, Fill}
 use Rattle.block.specs.Places.{unit_in, units_in}
 use Rattle.block.specs.Laws.{untouched, ReadsAs, OpeningWhatWasSealed}
-use Rattle.block.specs.Stages.{Fits}
+use Rattle.block.specs.steps.Reading.{Fits}
 use Rattle.block.proofs.HeaderParts.{length-super_frame_data, length-header, aligned-odd, crowded-none, start_packed, Right, header-right}
 use Rattle.block.proofs.PackedStarts.{length-packed, unsigned-packed, unsigned-packed_odd}
 use Rattle.block.proofs.ParameterBytes.{parameters-parameter_byte, right-parameter_byte}

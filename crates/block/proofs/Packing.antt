@@ -5,7 +5,7 @@ use Rattle.std.proofs.lemmas.List.{take_more, map-append}
 use Rattle.gf.specs.declared.gf2.Gf2.{Gf2}
 use Rattle.gf.specs.Bits.{Bits, bits, number, plus}
 use Rattle.gf.specs.Fields.{gf2}
-use Rattle.gf.specs.Numbers.{number_lt, number-bits}
+use Rattle.gf.specs.laws.Numbers.{number_lt, number-bits}
 use Rattle.block.specs.Checks.{binary, meanings}
 
 pub binary-snoc : (n : ℕ) (p : List (Bits 1)) (b : Bits 1) → binary n (p ++ (b ∷ [])) ≡ binary n p * 2 + number 1 b

@@ -10,7 +10,7 @@ use Rattle.block.specs.declared.writer.OpenWriter.{OpenWriter}
 use Rattle.block.specs.SuperFrames.{layout_for}
 use Rattle.block.specs.Places.{has_room}
 use Rattle.block.specs.Writing.{add_complaints, OneMore, all_fit, making_complaints}
-use Rattle.block.specs.WritingSteps.{PlacesAll}
+use Rattle.block.specs.steps.Writing.{PlacesAll}
 use Rattle.block.proofs.Starts.{layout_fits}
 
 module _ (s : Settings) (units : List (List ℕ)) where

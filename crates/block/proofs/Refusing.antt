@@ -8,7 +8,7 @@ use Rattle.block.specs.declared.fault.HeaderFault.TheVariants as faults
 use Rattle.block.specs.declared.header.Header.{Header}
 use Rattle.block.specs.Layouts.{refused, parameters, right}
 use Rattle.block.specs.Headers.{starts, fire_fits, fills, of_block, layout_of, written, crowded_of, header}
-use Rattle.block.specs.Stages.{spaced, parted, opened}
+use Rattle.block.specs.steps.Reading.{spaced, parted, opened}
 
 -- where the size and the buffer are right, the other conditions decide
 pub past_block : {A : Type 0} (size : ℕ) (block : List ℕ) → first_refusal (of_block size block []) ≡ None

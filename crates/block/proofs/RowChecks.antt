@@ -9,7 +9,7 @@ use Rattle.std.proofs.lemmas.List.{get_or_past, get_or-take, get_or-drop, get_or
 use Rattle.std.proofs.lemmas.List.FromFn.{length-map-range_with_len, get_or-map-range_with_len, take-map-range_with_len, fill_by_all}
 use Rattle.gf.specs.Bits.{bits, number}
 use Rattle.gf.specs.Fields.{gf256}
-use Rattle.gf.specs.FieldLaws.{laws256}
+use Rattle.gf.specs.laws.FieldLaws.{laws256}
 use Rattle.codes.specs.Codewords.{Codeword, checks_of}
 use Rattle.codes.proofs.ChecksOf.{length-checks_of, codeword-checks_of, codeword_is}
 use Rattle.interleaver.specs.Rows.{place_of, row_of, elements, ChecksFilled, AreBytes, AllCodewords}

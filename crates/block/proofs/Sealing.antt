@@ -7,10 +7,10 @@ use Rattle.std.proofs.lemmas.List.FromFn.{length-map-range_with_len, get_or-map-
 use Rattle.interleaver.specs.Rows.{ChecksFilled, AreBytes}
 use Rattle.block.specs.declared.writer.OpenWriter.{OpenWriter}
 use Rattle.block.specs.Checks.{fire_word}
-use Rattle.block.specs.Stages.{Fits}
+use Rattle.block.specs.steps.Reading.{Fits}
 use Rattle.block.specs.SuperFrames.{parameter_byte, two_bytes, checked_units, unit_starts, digits, packed, layout_for, behind_fire, super_frame_data, all_row_checks, superframe, Fill}
 use Rattle.block.specs.Places.{unit_in, units_in}
-use Rattle.block.specs.WritingSteps.{WholeAndSized, with_header, with_unit_checks}
+use Rattle.block.specs.steps.Writing.{WholeAndSized, with_header, with_unit_checks}
 use Rattle.block.proofs.Starts.{layout_fits}
 use Rattle.block.proofs.HeaderParts.{header_bytes, length-header_bytes, length-super_frame_data}
 use Rattle.block.proofs.Placing.{start-le_end, header-le_start}

@@ -7,7 +7,7 @@ use Rattle.std.proofs.lemmas.List.FromFn.{length-map-range_with_len, get_or-map-
 use Rattle.std.specs.List.{range_with_len}
 use Rattle.gf.specs.declared.refusal.Refusal.TheVariants.{Size}
 use Rattle.gf.specs.declared.refusal.Refusal.TheVariants as refusals
-use Rattle.gf.specs.FieldLaws.{laws256}
+use Rattle.gf.specs.laws.FieldLaws.{laws256}
 use Rattle.gf.specs.Refusals.{first_refusal}
 use Rattle.codes.proofs.TakenOff.{distance-same}
 use Rattle.interleaver.specs.Rows.{row_of, elements, AreBytes, AllCodewords, wrong}
@@ -23,7 +23,7 @@ use Rattle.block.specs.Headers.{starts, layout_of, written, header, unit_count, 
 use Rattle.block.specs.SuperFrames.{settings_complaints, two_bytes, checked_units, unit_starts, digits, packed, parameter_byte, all_row_checks, superframe, Fill}
 use Rattle.block.specs.Places.{unit_in, units_in}
 use Rattle.block.specs.Laws.{Flawless, MakesAgain, SealingWhatWasHeld}
-use Rattle.block.specs.Stages.{Fits}
+use Rattle.block.specs.steps.Reading.{Fits}
 use Rattle.block.proofs.HeaderParts.{length-header, aligned-odd, start_packed, Right, right_from}
 use Rattle.block.proofs.PackedStarts.{numbers, packed-numbers}
 use Rattle.block.proofs.ParameterBytes.{parameter_byte-parameters, sendable-parameters}

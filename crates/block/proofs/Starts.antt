@@ -8,7 +8,7 @@ use Rattle.block.specs.declared.parameters.Layout.{Layout}
 use Rattle.block.specs.Bytes.{unsigned}
 use Rattle.block.specs.Layouts.{layout}
 use Rattle.block.specs.Headers.{start, starts, crowded, fills}
-use Rattle.block.specs.Stages.{Fits}
+use Rattle.block.specs.steps.Reading.{Fits}
 use Rattle.block.proofs.Reading.{unsigned_lower}
 
 pub layout_fits : (d : DacRate) (sbr : Bool) → Fits (layout d sbr)

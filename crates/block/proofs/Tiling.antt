@@ -8,7 +8,7 @@ use Rattle.block.specs.declared.header.Header.{Header}
 use Rattle.block.specs.declared.parameters.Layout.{Layout}
 use Rattle.block.specs.Layouts.{parameters, right}
 use Rattle.block.specs.Headers.{starts, crowded, fire_fits, fills, layout_of, written, crowded_of, header, Tiles}
-use Rattle.block.specs.Stages.{Fits}
+use Rattle.block.specs.steps.Reading.{Fits}
 use Rattle.block.proofs.Starts.{layout_fits, start_at, start_last}
 
 -- no start is crowded where the search finds none

@@ -5,7 +5,7 @@ use Rattle.std.proofs.lemmas.List.{take_more, drop_more}
 use Rattle.std.specs.List.{range_with_len}
 use Rattle.gf.specs.Bits.{Bits, bits, equal}
 use Rattle.gf.specs.Fields.{gf2}
-use Rattle.gf.specs.FieldLaws.{laws2}
+use Rattle.gf.specs.laws.FieldLaws.{laws2}
 use Rattle.codes.specs.Polynomials.{zeros}
 use Rattle.codes.specs.Division.{remainder_of, admitted}
 use Rattle.codes.proofs.LongDivision.{length-remainder}

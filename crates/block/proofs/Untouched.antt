@@ -8,7 +8,7 @@ use Rattle.std.proofs.lemmas.List.Sums.{position_or_len_is}
 use Rattle.std.specs.List.{position_or_len}
 use Rattle.gf.specs.Bits.{Bits, bits}
 use Rattle.gf.specs.Fields.{gf256}
-use Rattle.gf.specs.FieldLaws.{laws256}
+use Rattle.gf.specs.laws.FieldLaws.{laws256}
 use Rattle.codes.specs.Codewords.{code_shape, distance, Codeword, Corrected}
 use Rattle.codes.proofs.TakenOff.{distance-same}
 use Rattle.codes.proofs.Words.{minimum_distance}

@@ -4,8 +4,8 @@ use Rattle.std.proofs.lemmas.Bool.{cases_lt}
 use Rattle.gf.specs.Theory.{pow}
 use Rattle.gf.specs.Bits.{Bits, bits, number, zeros, plus, equal, only, shift, out, times_x, times_row, times}
 use Rattle.gf.specs.Fields.{low2, low16, low256, gf256}
-use Rattle.gf.specs.FieldLaws.{laws256}
-use Rattle.gf.specs.Tests.{and_left, and_right}
+use Rattle.gf.specs.laws.FieldLaws.{laws256}
+use Rattle.gf.specs.laws.Tests.{and_left, and_right}
 use Rattle.codes.specs.Codewords.{Codeword, distance, Corrected}
 use Rattle.codes.specs.Polynomials as polynomials
 use Rattle.codes.proofs.Values.{value-zeros}

@@ -5,12 +5,11 @@ pub mod BlockRows
 pub mod Checks
 pub mod Layouts
 pub mod Headers
-pub mod Stages
 pub mod SuperFrames
 pub mod Places
 pub mod Writing
-pub mod WritingSteps
 pub mod Laws
 pub mod States
 pub mod Examples
 pub mod Texts
+pub mod steps

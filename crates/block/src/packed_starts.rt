@@ -2,7 +2,7 @@
 ghost use Rattle.std.specs.Prelude.{◌≡◌, ℕ, ◌+◌, ◌-◌, ◌*◌, ◌/◌, ◌<◌, ◌≤◌, length, slice_index};
 ghost use Rattle.block.specs.Bytes.{unsigned};
 ghost use Rattle.block.specs.Headers.{starts as expected, crowded, fills};
-ghost use Rattle.block.specs.Stages.{Fits};
+ghost use Rattle.block.specs.steps.Reading.{Fits};
 ghost use Rattle.block.specs.SuperFrames.{digits, packed};
 
 use super::parameters::Layout;

@@ -1,7 +1,7 @@
 // The rows of a block: 120 bytes each, of which ten are checks, and as many rows as the subchannel index says.
 ghost use Rattle.std.specs.Prelude.{◌≡◌, ◌*◌, ◌≤◌, length};
 ghost use Rattle.block.specs.BlockRows.{RowsFilled};
-ghost use Rattle.block.specs.Stages.{RepairsRows, RepairsCleanRows};
+ghost use Rattle.block.specs.steps.Reading.{RepairsRows, RepairsCleanRows};
 
 use gf::Refusal;
 use interleaver::{Repair, RowLayout};

@@ -4,7 +4,7 @@ ghost use Rattle.gf.specs.Refusals.{Answers};
 ghost use Rattle.block.specs.Checks.{fire_word};
 ghost use Rattle.block.specs.Headers.{of_block};
 ghost use Rattle.block.specs.Layouts.{layout};
-ghost use Rattle.block.specs.Stages.{laid, opened};
+ghost use Rattle.block.specs.steps.Reading.{laid, opened};
 
 use super::checks::fire_word;
 use super::fault::HeaderFault;

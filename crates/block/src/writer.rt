@@ -35,7 +35,7 @@ pub struct SealedWriter {
 
 impl OpenWriter {
     ghost use Rattle.block.specs.Writing.{Begins, add_complaints, OneMore, Adds, sealing_complaints, Seals};
-    ghost use Rattle.block.specs.WritingSteps.{WholeAndSized, with_header, with_unit_checks, HasPlaces, PlacesAll};
+    ghost use Rattle.block.specs.steps.Writing.{WholeAndSized, with_header, with_unit_checks, HasPlaces, PlacesAll};
 
     // An open super frame with no units in it.
     pub fn new(settings: Settings) -> OpenWriter

@@ -8,7 +8,7 @@ use Rattle.std.proofs.lemmas.Bool.{cases_lt}
 use Rattle.gf.specs.Theory.{Operations}
 use Rattle.codes.specs.Polynomials.{zeros}
 use Rattle.std.specs.List.{SwappedAt}
-use Rattle.codes.specs.Elimination.{cells, entries, Put, Swapped}
+use Rattle.codes.specs.steps.Elimination.{cells, entries, Put, Swapped}
 use Rattle.codes.proofs.Registers.{read}
 
 -- a row lies within

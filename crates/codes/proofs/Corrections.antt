@@ -5,7 +5,7 @@ use Rattle.std.proofs.lemmas.List.{get_or-map}
 use Rattle.std.proofs.lemmas.Bool.{cases_eq}
 use Rattle.gf.specs.Theory.{Operations, Laws, pow}
 use Rattle.codes.specs.Codewords.{Fresh, Apart, power_sum}
-use Rattle.codes.specs.Decoding.{Among, symbol, taken_off, weight, Rest, CorrectedPlaces}
+use Rattle.codes.specs.steps.Decoding.{Among, symbol, taken_off, weight, Rest, CorrectedPlaces}
 use Rattle.codes.proofs.Ring.{O, ◌⊕◌, ⊝◌, ◌≐◌, ring₁, ring₂, ring₃}
 use Rattle.codes.proofs.TakenOff.{count_swap, symbol-taken_off}
 use Rattle.codes.proofs.PowerSums.{unequal}

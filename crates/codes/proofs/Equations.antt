@@ -6,8 +6,8 @@ use lib.ListN.{length-map, get_or-replicate}
 use Rattle.std.proofs.lemmas.List.{get_or_append_left, take-map}
 use Rattle.gf.specs.Theory.{Operations, Laws, pow}
 use Rattle.codes.specs.Codewords.{Apart, power_sum}
-use Rattle.codes.specs.Elimination.{entries, sum, sent, Kernel}
-use Rattle.codes.specs.Decoding.{recurrence, Locator, Recurring, Columns, Normalized}
+use Rattle.codes.specs.steps.Elimination.{entries, sum, sent, Kernel}
+use Rattle.codes.specs.steps.Decoding.{recurrence, Locator, Recurring, Columns, Normalized}
 use Rattle.codes.proofs.Elements.{zero-mul, add-mul}
 use Rattle.codes.proofs.Ring.{O, I, ◌⊕◌, ◌⊗◌, ⊝◌, ◌≐◌, ring₂, ring₄}
 use Rattle.codes.proofs.Linear.{sent_more, sent_vector}

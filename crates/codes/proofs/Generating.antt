@@ -8,8 +8,8 @@ use Rattle.gf.specs.Theory.{Operations, Laws, pow}
 use Rattle.codes.specs.Polynomials.{over, times}
 use Rattle.codes.specs.Division.{admitted}
 use Rattle.codes.specs.Codewords.{generator}
-use Rattle.codes.specs.Elimination.{entries}
-use Rattle.codes.specs.Filling.{Holds, FactorTaken}
+use Rattle.codes.specs.steps.Elimination.{entries}
+use Rattle.codes.specs.steps.Filling.{Holds, FactorTaken}
 use Rattle.codes.proofs.Admission.{admitted_by_lead}
 use Rattle.codes.proofs.Lists.{length-times}
 use Rattle.codes.proofs.Ring.{O, I, ◌⊕◌, ◌⊗◌, ⊝◌, ◌≐◌, ring₁, ring₂, ring₃}

@@ -2,7 +2,7 @@
 use Rattle.std.proofs.Common.{◌≡◌, ℕ, zero, suc, ◌+◌, ◌-◌, ◌<◌, ◌≤◌, sym, refl, ap, ◌∙◌, ap₂, ⊎_elim, not-suc-le-zero, add-zero, add-suc, add-one, arith}
 use Rattle.std.proofs.lemmas.Bool.{cases_eq}
 use Rattle.gf.specs.Theory.{Operations, Laws}
-use Rattle.codes.specs.Elimination.{sum, sent}
+use Rattle.codes.specs.steps.Elimination.{sum, sent}
 use Rattle.codes.proofs.Elements.{mul-zero, zero-mul, add_swap, add-mul}
 
 module _ {E : Type 0} {f : Operations E} (l : Laws f) where

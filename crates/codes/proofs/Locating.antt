@@ -5,7 +5,7 @@ use Rattle.std.proofs.lemmas.Bool.{cases_Bool}
 use Rattle.gf.specs.Theory.{Operations, Laws, pow}
 use Rattle.codes.specs.Polynomials.{value, zeros, over}
 use Rattle.codes.specs.Codewords.{Fresh, Apart, Codeword, syndrome, distance, power_sum}
-use Rattle.codes.specs.Decoding.{Among, symbol, point, recurrence, Locator, Suspects, taken_off, weight}
+use Rattle.codes.specs.steps.Decoding.{Among, symbol, point, recurrence, Locator, Suspects, taken_off, weight}
 use Rattle.codes.proofs.Elements as elements
 use Rattle.codes.proofs.Lists.{cons, add_back}
 use Rattle.codes.proofs.Ring.{O, ◌⊕◌, ◌⊗◌, ⊝◌, ◌≐◌, ring₁, ring₂, ring₃, ring₇}

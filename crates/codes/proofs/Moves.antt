@@ -2,7 +2,7 @@
 use Rattle.std.proofs.Common.{◌≡◌, ℕ, ◌+◌, ◌<◌, ◌≤◌, sym, refl, ◌∙◌, subst, ap₂, ⊎_elim, arith}
 use Rattle.std.proofs.lemmas.Bool.{cases_eq}
 use Rattle.gf.specs.Theory.{Operations}
-use Rattle.codes.specs.Elimination.{Added, Others, Cleared, Below}
+use Rattle.codes.specs.steps.Elimination.{Added, Others, Cleared, Below}
 
 module _ {E : Type 0} (f : Operations E) (w k : ℕ) where
   pub cleared_all : (n : ℕ) (a : ℕ → ℕ → E) (r : ℕ) (q : E) (b : ℕ → ℕ → E) → w ≤ n → k < w

@@ -4,9 +4,9 @@ use lib.ListN.{length-map}
 use Rattle.std.proofs.lemmas.Bool.{cases_lt, and_parts}
 use Rattle.gf.specs.Theory.{Operations, Laws}
 use Rattle.codes.specs.Codewords.{Codeword, syndrome, distance, power_sum, all_zero, Corrected, Beyond}
-use Rattle.codes.specs.Syndromes.{Syndromes}
+use Rattle.codes.specs.steps.Syndromes.{Syndromes}
 use Rattle.codes.specs.Polynomials.{zeros}
-use Rattle.codes.specs.Decoding.{Among, point, Locator, Suspects, taken_off, Found, CorrectedPlaces}
+use Rattle.codes.specs.steps.Decoding.{Among, point, Locator, Suspects, taken_off, Found, CorrectedPlaces}
 use Rattle.codes.proofs.PowerSums.{weight-length}
 use Rattle.codes.proofs.Words.{codeword_syndromes, syndromes_decide, unique}
 use Rattle.codes.proofs.Suspects.{suspects_few}

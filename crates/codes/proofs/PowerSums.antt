@@ -4,7 +4,7 @@ use lib.ListN.{length-map}
 use Rattle.gf.specs.Theory.{Operations, Laws, pow}
 use Rattle.codes.specs.Polynomials.{zeros, negs, over}
 use Rattle.codes.specs.Codewords.{Fresh, Apart, power_sum, Vandermonde}
-use Rattle.codes.specs.Decoding.{weight}
+use Rattle.codes.specs.steps.Decoding.{weight}
 use Rattle.codes.proofs.Elements.{zero-mul, equal_of}
 use Rattle.codes.proofs.Lists.{cons, length_over}
 use Rattle.codes.proofs.Ring.{O, I, ◌⊕◌, ◌⊗◌, ⊝◌, ◌≐◌, ring₁, ring₂, ring₅, ring₆}

@@ -3,7 +3,7 @@ use Rattle.std.proofs.Common.{◌≡◌, ℕ, zero, suc, ◌+◌, ◌-◌, ◌<�
 use mathlib.Core.List.{map-append}
 use Rattle.gf.specs.Theory.{Operations, Laws, pow}
 use Rattle.codes.specs.Polynomials.{value, zeros}
-use Rattle.codes.specs.Decoding.{point, terms_of, total, Suspects}
+use Rattle.codes.specs.steps.Decoding.{point, terms_of, total, Suspects}
 use Rattle.codes.proofs.Lists.{cons}
 use Rattle.codes.proofs.Values.{pow-one, pow-mul}
 use Rattle.codes.proofs.Suspects.{suspects_few, suspects_hit, suspects_miss}

@@ -2,7 +2,7 @@
 use Rattle.std.proofs.Common.{◌≡◌, ℕ, ◌+◌, ◌<◌, ◌≤◌, sym, refl, ap, ◌∙◌, subst, ap₂, ⊎_elim, arith}
 use Rattle.std.proofs.lemmas.Bool.{cases_eq, cases_lt}
 use Rattle.gf.specs.Theory.{Operations, Laws}
-use Rattle.codes.specs.Elimination.{sent, Kills, Keeps, Steps, Free, Pivot, Swapped, Below, Single, Solved}
+use Rattle.codes.specs.steps.Elimination.{sent, Kills, Keeps, Steps, Free, Pivot, Swapped, Below, Single, Solved}
 use Rattle.codes.proofs.Elements.{mul-zero, zero-mul}
 use Rattle.codes.proofs.Linear.{sent-same, sent_added, sent_change, sent-none}
 

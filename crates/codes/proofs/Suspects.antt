@@ -5,7 +5,7 @@ use Rattle.std.proofs.lemmas.Bool.{cases_lt}
 use Rattle.gf.specs.Theory.{Operations, Laws}
 use Rattle.codes.specs.Polynomials.{value, zeros, times}
 use Rattle.codes.specs.Codewords.{Fresh, Apart}
-use Rattle.codes.specs.Decoding.{Among, point, Suspects}
+use Rattle.codes.specs.steps.Decoding.{Among, point, Suspects}
 use Rattle.codes.proofs.Lists.{times-zeros}
 use Rattle.codes.proofs.Values.{value-times}
 use Rattle.codes.proofs.PowerSums.{Zero, zero-list, zero-zeros, no_divisors, apart_minus}

@@ -2,7 +2,7 @@
 use Rattle.std.proofs.Common.{◌≡◌, ℕ, zero, suc, ◌-◌, ◌<◌, Bool, true, false, cond, List, [], ◌∷◌, map, length, set, sym, refl, ap, ◌∙◌, subst, ap₂, inl, inr, arith, length-set, get_or-set_other, get_or-set_same}
 use Rattle.gf.specs.Theory.{Operations, Laws, pow}
 use Rattle.codes.specs.Codewords.{Fresh, Apart, syndrome, distance, power_sum}
-use Rattle.codes.specs.Decoding.{Among, symbol, point, taken_off, weight}
+use Rattle.codes.specs.steps.Decoding.{Among, symbol, point, taken_off, weight}
 use Rattle.codes.proofs.Elements.{equal_agree}
 use Rattle.codes.proofs.Ring.{O, ◌⊕◌, ◌⊗◌, ⊝◌, ◌≐◌, ring₁, ring₂, ring₄}
 use Rattle.codes.proofs.Values.{pow-pow, value_set}

@@ -8,8 +8,8 @@ use Rattle.std.proofs.lemmas.Bool.{cases_eq}
 use Rattle.gf.specs.Theory.{Operations, Laws, pow}
 use Rattle.codes.specs.Polynomials.{value}
 use Rattle.codes.specs.Codewords.{syndrome, all_zero}
-use Rattle.codes.specs.Elimination.{entries}
-use Rattle.codes.specs.Syndromes.{Taken, Syndromes}
+use Rattle.codes.specs.steps.Elimination.{entries}
+use Rattle.codes.specs.steps.Syndromes.{Taken, Syndromes}
 use Rattle.codes.proofs.Values.{value-snoc}
 
 -- the part of a list before the next index, mapped

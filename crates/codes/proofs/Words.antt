@@ -5,7 +5,7 @@ use Rattle.std.proofs.lemmas.Bool.{cases_lt}
 use Rattle.gf.specs.Theory.{Operations, Laws, pow}
 use Rattle.codes.specs.Polynomials.{zeros, value, scale, negs, over, times, coefficient}
 use Rattle.codes.specs.Codewords.{Fresh, Apart, generator, Codeword, syndrome, distance, power_sum, SyndromesDecide, MinimumDistance}
-use Rattle.codes.specs.Decoding.{weight}
+use Rattle.codes.specs.steps.Decoding.{weight}
 use Rattle.codes.proofs.Elements.{zero-mul, mul-zero, equal_of, equal_agree}
 use Rattle.codes.proofs.Lists.{cons, length_over, length-times, times_assoc, times-one}
 use Rattle.codes.proofs.Same.{leading}

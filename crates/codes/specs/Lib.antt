@@ -2,8 +2,4 @@
 pub mod Polynomials
 pub mod Division
 pub mod Codewords
-pub mod Filling
-pub mod Elimination
-pub mod Syndromes
-pub mod Decoding
-pub mod Matrices
+pub mod steps

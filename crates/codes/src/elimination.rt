@@ -1,6 +1,6 @@
 // Elimination over every field: a vector that is not zero, and that a matrix with more columns than rows sends to zero.
 ghost use Rattle.std.specs.Prelude.{◌≡◌, ℕ, ◌+◌, ◌*◌, ◌<◌, ◌≤◌, length, MatchOption, ◌≢◌};
-ghost use Rattle.codes.specs.Elimination.{cells, entries, sent, Put, Pivot, Free, Swapped, Others, Cleared, Below, Steps, Reduced, Single, Kernel};
+ghost use Rattle.codes.specs.steps.Elimination.{cells, entries, sent, Put, Pivot, Free, Swapped, Others, Cleared, Below, Steps, Reduced, Single, Kernel};
 
 use crate::division::clear;
 use gf::Field;
@@ -35,7 +35,7 @@ fn single<F: Field>(vector: &mut [F], free: usize)
 }
 
 impl<'a, F: Field> Matrix<'a, F> {
-    ghost use Rattle.codes.specs.Matrices.{SameShape};
+    ghost use Rattle.codes.specs.steps.Matrices.{SameShape};
 
     // A matrix on these symbols, whatever they hold.
     pub(crate) fn new(symbols: &'a mut [F], rows: usize, columns: usize) -> Matrix<'a, F>

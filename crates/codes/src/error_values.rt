@@ -1,9 +1,9 @@
 // What the errors of a word are, once their places are known: values with the right power sums.
 ghost use Rattle.std.specs.Prelude.{◌≡◌, ℕ, ◌<◌, ◌≤◌, map, length, take};
 ghost use Rattle.codes.specs.Codewords.{Apart, power_sum};
-ghost use Rattle.codes.specs.Elimination.{cells, entries};
-ghost use Rattle.codes.specs.Matrices.{SameShape};
-ghost use Rattle.codes.specs.Decoding.{point, Powers, Columns, Beside, Normalized};
+ghost use Rattle.codes.specs.steps.Elimination.{cells, entries};
+ghost use Rattle.codes.specs.steps.Matrices.{SameShape};
+ghost use Rattle.codes.specs.steps.Decoding.{point, Powers, Columns, Beside, Normalized};
 
 use crate::elimination::Matrix;
 use gf::Field;

@@ -3,9 +3,9 @@ ghost use Rattle.std.specs.Prelude.{◌≡◌, ℕ, ◌<◌, ◌≤◌, map, len
 ghost use Rattle.gf.specs.Theory.{pow};
 ghost use Rattle.arrayvec.specs.ArrayVec.{array_vec_len};
 ghost use Rattle.codes.specs.Codewords.{Apart, power_sum, Outcome};
-ghost use Rattle.codes.specs.Syndromes.{Syndromes};
-ghost use Rattle.codes.specs.Elimination.{entries};
-ghost use Rattle.codes.specs.Decoding.{point, Among, Found, Rest, CorrectedPlaces};
+ghost use Rattle.codes.specs.steps.Syndromes.{Syndromes};
+ghost use Rattle.codes.specs.steps.Elimination.{entries};
+ghost use Rattle.codes.specs.steps.Decoding.{point, Among, Found, Rest, CorrectedPlaces};
 
 use crate::error_values::find_values;
 use crate::locator::{MAX_ERRORS, locate};

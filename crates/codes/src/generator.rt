@@ -1,8 +1,8 @@
 // The generator of the check code: the product of all x - root^i for i below the number of checks.
 ghost use Rattle.std.specs.Prelude.{◌≡◌, ◌+◌, ◌-◌, ◌<◌, ◌≤◌, map, length};
 ghost use Rattle.codes.specs.Codewords.{generator};
-ghost use Rattle.codes.specs.Elimination.{entries};
-ghost use Rattle.codes.specs.Filling.{Holds};
+ghost use Rattle.codes.specs.steps.Elimination.{entries};
+ghost use Rattle.codes.specs.steps.Filling.{Holds};
 
 use crate::division::clear;
 use gf::Field;

@@ -2,9 +2,9 @@
 ghost use Rattle.std.specs.Prelude.{◌≡◌, ℕ, ◌+◌, ◌-◌, ◌*◌, ◌/◌, ◌<◌, ◌≤◌, map, length, take, ◌≢◌};
 ghost use Rattle.arrayvec.specs.ArrayVec.{array_vec_len};
 ghost use Rattle.codes.specs.Polynomials.{zeros};
-ghost use Rattle.codes.specs.Elimination.{cells, entries, Others};
-ghost use Rattle.codes.specs.Matrices.{SameShape};
-ghost use Rattle.codes.specs.Decoding.{point, terms_of, total, Locator, Suspects, Located, Recurring};
+ghost use Rattle.codes.specs.steps.Elimination.{cells, entries, Others};
+ghost use Rattle.codes.specs.steps.Matrices.{SameShape};
+ghost use Rattle.codes.specs.steps.Decoding.{point, terms_of, total, Locator, Suspects, Located, Recurring};
 
 use crate::code::MAX_CHECKS;
 use crate::elimination::Matrix;

@@ -1,8 +1,8 @@
 // Syndromes over every field: the values of a word at the powers of the root.
 ghost use Rattle.std.specs.Prelude.{◌≡◌, ◌≤◌, map, length};
 ghost use Rattle.codes.specs.Codewords.{all_zero};
-ghost use Rattle.codes.specs.Elimination.{entries};
-ghost use Rattle.codes.specs.Syndromes.{Taken, Syndromes};
+ghost use Rattle.codes.specs.steps.Elimination.{entries};
+ghost use Rattle.codes.specs.steps.Syndromes.{Taken, Syndromes};
 
 use crate::division::clear;
 use gf::Field;

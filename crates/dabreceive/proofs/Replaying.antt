@@ -9,7 +9,7 @@ use Rattle.gf.specs.Refusals.{first_refusal}
 use Rattle.sources.specs.Sources.{Source, without_first, with_last, offer_complaints, Offers}
 use Rattle.sources.specs.Queues.{queue_source}
 use Rattle.sources.specs.Frames.{whole_frames}
-use Rattle.sources.specs.FrameLengths.{each_length}
+use Rattle.sources.specs.laws.FrameLengths.{each_length}
 use Rattle.reception.specs.declared.answers.Delivery.{Delivery}
 use Rattle.reception.specs.declared.calls.Call.{Call}
 use Rattle.reception.specs.declared.calls.Call.TheVariants as calls

@@ -1,7 +1,7 @@
 // The field of 16 elements, by tables.
 ghost use Rattle.gf.specs.Bits.{bits};
 ghost use Rattle.gf.specs.Fields.{low16};
-ghost use Rattle.gf.specs.FieldLaws.{laws16, tables16, sound16};
+ghost use Rattle.gf.specs.laws.FieldLaws.{laws16, tables16, sound16};
 
 use super::binary::BinaryField;
 use super::tabled::{StoredTables, TabledField};
@@ -40,7 +40,7 @@ impl BinaryField for Gf16 {
     }
 }
 
-#[tactic(auto, unfolding(crate::specs::FieldLaws::tables16))]
+#[tactic(auto, unfolding(crate::specs::laws::FieldLaws::tables16))]
 impl TabledField for Gf16 {
     ghost tables = { tables16 };
 

@@ -1,7 +1,7 @@
 // The field of 2 elements.
 ghost use Rattle.gf.specs.Bits.{bits};
 ghost use Rattle.gf.specs.Fields.{low2};
-ghost use Rattle.gf.specs.FieldLaws.{laws2};
+ghost use Rattle.gf.specs.laws.FieldLaws.{laws2};
 
 use super::binary::{BinaryField, BinaryProduct};
 

@@ -1,7 +1,7 @@
 // The field of 256 elements, by tables.
 ghost use Rattle.gf.specs.Bits.{bits};
 ghost use Rattle.gf.specs.Fields.{low256};
-ghost use Rattle.gf.specs.FieldLaws.{laws256, tables256, sound256};
+ghost use Rattle.gf.specs.laws.FieldLaws.{laws256, tables256, sound256};
 
 use super::binary::BinaryField;
 use super::products::ROOT_PRODUCTS_256;
@@ -41,7 +41,7 @@ impl BinaryField for Gf256 {
     }
 }
 
-#[tactic(auto, unfolding(crate::specs::FieldLaws::tables256))]
+#[tactic(auto, unfolding(crate::specs::laws::FieldLaws::tables256))]
 impl TabledField for Gf256 {
     ghost tables = { tables256 };
 

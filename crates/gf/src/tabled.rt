@@ -1,6 +1,6 @@
 // Binary fields that multiply by tables.
 ghost use Rattle.std.specs.Prelude.{◌≡◌, ◌+◌, ◌*◌, ◌^◌, length};
-ghost use Rattle.gf.specs.Computed.{Tables, Sound};
+ghost use Rattle.gf.specs.laws.Computed.{Tables, Sound};
 
 use super::binary::{BinaryField, BinaryProduct};
 

@@ -3,7 +3,7 @@ use Rattle.std.proofs.Common.{◌≡◌, ℕ, zero, suc, ◌%◌, ◌^◌, ◌<�
 use lib.ListN.{length-map}
 use Rattle.std.proofs.lemmas.List.{ext_get_or, get_or-map, get_or_past}
 use Rattle.gf.specs.Bits.{Bits, bits, number}
-use Rattle.gf.specs.Numbers.{bits-number, number_lt, number-bits}
+use Rattle.gf.specs.laws.Numbers.{bits-number, number_lt, number-bits}
 use Rattle.codes.proofs.Lists.{cons}
 use Rattle.interleaver.specs.Rows.{elements, AreBytes}
 

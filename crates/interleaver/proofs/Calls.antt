@@ -8,8 +8,8 @@ use Rattle.gf.specs.declared.gf256.Gf256.{Gf256}
 use Rattle.gf.specs.Theory.{Operations, Laws}
 use Rattle.gf.specs.Bits.{Bits, bits}
 use Rattle.gf.specs.Fields.{gf256}
-use Rattle.gf.specs.FieldLaws.{laws256}
-use Rattle.gf.specs.Numbers.{bits-zero}
+use Rattle.gf.specs.laws.FieldLaws.{laws256}
+use Rattle.gf.specs.laws.Numbers.{bits-zero}
 use Rattle.codes.specs.Polynomials.{zeros}
 use Rattle.codes.specs.Codewords.{all_zero, code_shape, work_shape, Shaped, Filled, Corrected, Beyond, Encoded, Outcome, Correction}
 use Rattle.interleaver.specs.Rows.{row_of, stored, RowRepaired}

@@ -5,7 +5,7 @@ use Rattle.std.specs.List.{count_by, position}
 use Rattle.std.proofs.lemmas.List.{length_push, get_or_push, get_or_append_left}
 use Rattle.std.proofs.lemmas.List.Sums.{sum_by_push}
 use Rattle.gf.specs.Fields.{gf256}
-use Rattle.gf.specs.FieldLaws.{laws256}
+use Rattle.gf.specs.laws.FieldLaws.{laws256}
 use Rattle.gf.specs.Bits.{bits}
 use Rattle.codes.proofs.TakenOff.{distance-same}
 use Rattle.interleaver.specs.declared.repair.Repair.{Repair}

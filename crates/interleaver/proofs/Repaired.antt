@@ -9,7 +9,7 @@ use Rattle.std.proofs.lemmas.List.{get_or_past, get_or_default}
 use Rattle.std.proofs.lemmas.List.FromFn.{length-map-range_with_len, get_or-map-range_with_len}
 use Rattle.gf.specs.Bits.{Bits, bits, number}
 use Rattle.gf.specs.Fields.{gf256}
-use Rattle.gf.specs.FieldLaws.{laws256}
+use Rattle.gf.specs.laws.FieldLaws.{laws256}
 use Rattle.codes.specs.Codewords.{code_shape, distance, Corrected, Codeword}
 use Rattle.codes.proofs.NearWords.{Searched, IsNear, dec_near}
 use Rattle.codes.proofs.Shapes.{code_sizes}

@@ -7,7 +7,7 @@ use Rattle.reception.specs.Receptions.{Reception, new_receiver, Event, asked_by}
 use Rattle.reception.specs.Rules.{Rule}
 use Rattle.reception.specs.Runs.{Run, ends, goes_on}
 use Rattle.reception.specs.Driving.{asked_of, left_by, Answered, outcome_of, block_of, Told, Driven}
-use Rattle.reception.specs.Stages.{Ran}
+use Rattle.reception.specs.steps.Calls.{Ran}
 
 -- a run, and one event more
 run_more : {r between after : Reception} {es : List Event} {e : Event} → Run r es between → Rule between e after → Run r (es ++ e ∷ []) after

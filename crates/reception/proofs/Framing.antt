@@ -14,7 +14,7 @@ use Rattle.sources.specs.declared.source.Next.{Next}
 use Rattle.sources.specs.declared.source.Next.TheVariants.{Frame}
 use Rattle.sources.specs.Sources.{Source, without_first, TakesNext}
 use Rattle.sources.specs.Frames.{frame_at}
-use Rattle.reception.specs.Holding.{Holding, holding}
+use Rattle.reception.specs.steps.Holding.{Holding, holding}
 
 module _ (frame_length : ℕ) where
   abbrev pub frames : ℕ → List ℕ → List (List ℕ)

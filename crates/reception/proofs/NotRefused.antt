@@ -7,7 +7,7 @@ use Rattle.gf.specs.Refusals.{first_refusal}
 use Rattle.block.specs.Headers.{of_buffer}
 use Rattle.reception.specs.Receptions.{Reception}
 use Rattle.reception.specs.Rules.{Ready}
-use Rattle.reception.specs.Stages.{PullFits}
+use Rattle.reception.specs.steps.Calls.{PullFits}
 
 -- a call is not both refused and done
 pub not_both : {G : Type 0} (first : Option Refusal) (refusal : Refusal) → first ≡ None → first ≡ Some refusal → G

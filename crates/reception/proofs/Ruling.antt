@@ -9,7 +9,7 @@ use Rattle.reception.specs.declared.mode.Mode.{Mode}
 use Rattle.reception.specs.declared.mode.Mode.TheVariants.{Hunting}
 use Rattle.reception.specs.declared.answers.Pulled.{Pulled}
 use Rattle.reception.specs.Receptions.{Reception, taking, Event, pulled, restarted, reported}
-use Rattle.reception.specs.Holding.{Holding, TakesIn}
+use Rattle.reception.specs.steps.Holding.{Holding, TakesIn}
 use Rattle.reception.specs.Rules.{InFront, with_frame, Rule, restarts, reports}
 
 -- a rule, of a receiver that is the same

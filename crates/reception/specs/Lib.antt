@@ -1,11 +1,10 @@
 -- What the promises of this crate are made in: what a receiver is, its rules, runs by them, and the laws over runs.
 pub mod Receptions
 pub mod Blocks
-pub mod Holding
 pub mod Rules
 pub mod Runs
 pub mod Recovery
 pub mod Service
 pub mod Correcting
 pub mod Driving
-pub mod Stages
+pub mod steps

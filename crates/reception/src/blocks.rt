@@ -3,7 +3,7 @@ ghost use Rattle.std.specs.Prelude.{◌≡◌, ◌*◌, ◌≤◌, length, Match
 ghost use Rattle.interleaver.specs.Rows.{AreBytes};
 ghost use Rattle.block.specs.States.{header_of};
 ghost use Rattle.reception.specs.Blocks.{state_of_unit, states_of_units, Delivers, Misread, IsCleanAndLegible};
-ghost use Rattle.reception.specs.Stages.{Reads};
+ghost use Rattle.reception.specs.steps.Calls.{Reads};
 
 use crate::answers::{Delivery, UnitState};
 use crate::sizes::MAX_BLOCK_BYTES;

@@ -5,7 +5,7 @@ ghost use Rattle.reception.specs.Recovery.{BackAfterBadReception};
 ghost use Rattle.reception.specs.Service.{LineServed, NothingLostWhileHunting, OneAnswer};
 ghost use Rattle.reception.specs.Correcting.{EveryWordCorrected};
 ghost use Rattle.reception.specs.Driving.{Driven};
-ghost use Rattle.reception.specs.Stages.{Ran};
+ghost use Rattle.reception.specs.steps.Calls.{Ran};
 
 use crate::calls::{Call, Listener, Outcome};
 use crate::receiver::Receiver;

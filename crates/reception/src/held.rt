@@ -1,7 +1,7 @@
 // The frames that a receiver holds.
 ghost use Rattle.std.specs.Prelude.{◌≡◌, ◌*◌, ◌<◌, ◌≤◌, [], length, drop};
 ghost use Rattle.std.specs.List.{concat};
-ghost use Rattle.reception.specs.Holding.{TakesIn};
+ghost use Rattle.reception.specs.steps.Holding.{TakesIn};
 
 use crate::sizes::{FRAMES, MAX_BLOCK_BYTES};
 use gf::Refusal;
@@ -19,7 +19,7 @@ pub(crate) struct HeldFrames {
 // Clauses see the frame length and the list of frames.
 impl Model for HeldFrames {
     ghost use Rattle.std.specs.Prelude.{◌≤◌};
-    ghost use Rattle.reception.specs.Holding.{Holding, holding};
+    ghost use Rattle.reception.specs.steps.Holding.{Holding, holding};
 
     ghost Value = { Holding };
 

@@ -3,7 +3,7 @@ ghost use Rattle.std.specs.Prelude.{◌≡◌, ◌≤◌};
 ghost use Rattle.gf.specs.Refusals.{unless, Answers};
 ghost use Rattle.reception.specs.Receptions.{new_receiver, receiver_complaints, pull_complaints, patience_complaints, pulled, offered, restarted, patience_set, reported};
 ghost use Rattle.reception.specs.Rules.{Rule};
-ghost use Rattle.reception.specs.Stages.{PullFits};
+ghost use Rattle.reception.specs.steps.Calls.{PullFits};
 
 use crate::answers::{Pulled, Report};
 use crate::blocks::{deliver_block, deliver_clean_block};

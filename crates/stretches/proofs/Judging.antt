@@ -9,7 +9,7 @@ use Rattle.gf.specs.declared.refusal.Refusal.{Refusal}
 use Rattle.gf.specs.declared.refusal.Refusal.TheVariants.{Buffer, Index, UnitCheck}
 use Rattle.gf.specs.Theory.{Operations, Laws}
 use Rattle.gf.specs.Fields.{gf256}
-use Rattle.gf.specs.FieldLaws.{laws256}
+use Rattle.gf.specs.laws.FieldLaws.{laws256}
 use Rattle.gf.specs.Refusals.{first_refusal}
 use Rattle.codes.specs.Codewords.{distance, Codeword}
 use Rattle.codes.proofs.TakenOff.{distance-same}

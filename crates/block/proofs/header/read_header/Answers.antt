@@ -1,7 +1,7 @@
 use Rattle.std.proofs.Common.{◌≡◌, Ok, Err, sym, ap, ◌∙◌, ap₂}
 use Rattle.std.proofs.lemmas.Result.{err_from_is_err_and}
 use Rattle.block.specs.Headers.{header}
-use Rattle.block.specs.Stages.{opened}
+use Rattle.block.specs.steps.Reading.{opened}
 use Rattle.block.proofs.Refusing.{converted, opened-header}
 use Rattle.block.proofs.Tiling.{tiled_answer}
 use Rattle.block.proofs.header.read_header.Goals.{After-header}

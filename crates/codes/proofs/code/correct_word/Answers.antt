@@ -1,7 +1,7 @@
 use Rattle.std.proofs.Common.{◌≡◌, map, length, take, sym, ap, ◌∙◌, arith, rules}
 use lib.ListN.{length-map, length-replicate}
 use Rattle.codes.specs.Polynomials.{zeros}
-use Rattle.codes.specs.Elimination.{entries}
+use Rattle.codes.specs.steps.Elimination.{entries}
 use Rattle.codes.proofs.Shapes.{code_sizes, zeros_over}
 use Rattle.codes.proofs.Outcomes.{all_zero_at, outcome_clean}
 use Rattle.codes.proofs.code.correct_word.Goals as goal

@@ -1,7 +1,7 @@
 use Rattle.std.proofs.Common.{◌≡◌}
 use Rattle.gf.specs.Theory.{pow}
-use Rattle.codes.specs.Elimination.{cells}
-use Rattle.codes.specs.Decoding.{Powers, Beside}
+use Rattle.codes.specs.steps.Elimination.{cells}
+use Rattle.codes.specs.steps.Decoding.{Powers, Beside}
 use Rattle.codes.proofs.error_values.fill_column.Given as goal
 
 -- the rows before hold their powers, and no other column is written

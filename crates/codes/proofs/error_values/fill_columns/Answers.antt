@@ -1,8 +1,8 @@
 use borrow.Author.Count.{below_more}
 use Rattle.std.proofs.Common.{ap, ◌∙◌, arith}
 use Rattle.gf.specs.Theory.{pow}
-use Rattle.codes.specs.Elimination.{cells, entries}
-use Rattle.codes.specs.Decoding.{Powers}
+use Rattle.codes.specs.steps.Elimination.{cells, entries}
+use Rattle.codes.specs.steps.Decoding.{Powers}
 use Rattle.codes.proofs.Cells.{place_read}
 use Rattle.codes.proofs.error_values.fill_columns.Goals as goal
 

@@ -1,6 +1,6 @@
 use Rattle.std.proofs.Common.{◌≡◌}
-use Rattle.codes.specs.Elimination.{cells, entries}
-use Rattle.codes.specs.Decoding.{Columns}
+use Rattle.codes.specs.steps.Elimination.{cells, entries}
+use Rattle.codes.specs.steps.Decoding.{Columns}
 use Rattle.codes.proofs.error_values.fill_columns.Given as goal
 
 -- the columns before are filled

@@ -1,7 +1,7 @@
 use Rattle.std.proofs.Common.{◌≡◌, ℕ, ◌+◌, ◌<◌, ◌++◌, map, length, take, drop, ◌∙◌, sym, ap, arith, length-append, length-take-le}
 use lib.ListN.{length-map}
 use Rattle.std.proofs.lemmas.List.{take-append-drop}
-use Rattle.codes.specs.Elimination.{cells, entries}
+use Rattle.codes.specs.steps.Elimination.{cells, entries}
 use Rattle.codes.proofs.Cells.{front}
 use Rattle.codes.proofs.Equations.{kernel_front, values_solved}
 use Rattle.codes.proofs.error_values.find_values.Goals as goal

@@ -1,6 +1,6 @@
 use Rattle.std.proofs.Common.{◌≡◌, ◌<◌, length, take, drop, sym, ap, ◌∙◌, ap₂, arith, length-take-le}
 use Rattle.std.proofs.lemmas.List.{take-append-drop}
-use Rattle.codes.specs.Elimination.{entries}
+use Rattle.codes.specs.steps.Elimination.{entries}
 use Rattle.codes.proofs.Cells.{place_read, place_at, place-next, front}
 use Rattle.codes.proofs.error_values.normalize.Goals as goal
 

@@ -1,6 +1,6 @@
 use Rattle.std.proofs.Common.{◌≡◌, ℕ, ◌≤◌}
-use Rattle.codes.specs.Elimination.{entries}
-use Rattle.codes.specs.Decoding.{Scaled}
+use Rattle.codes.specs.steps.Elimination.{entries}
+use Rattle.codes.specs.steps.Decoding.{Scaled}
 use Rattle.codes.proofs.error_values.normalize.Given as goal
 
 -- the entries before are multiplied, the others are as they were

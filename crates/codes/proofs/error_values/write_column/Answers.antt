@@ -1,6 +1,6 @@
 use borrow.Author.Count.{below_more}
 use Rattle.std.proofs.Common.{◌≡◌, ◌∙◌, arith}
-use Rattle.codes.specs.Elimination.{cells, entries}
+use Rattle.codes.specs.steps.Elimination.{cells, entries}
 use Rattle.codes.proofs.Cells.{place_read}
 use Rattle.codes.proofs.error_values.write_column.Goals as goal
 

@@ -1,6 +1,6 @@
 use Rattle.std.proofs.Common.{◌≡◌, ℕ, ◌<◌}
-use Rattle.codes.specs.Elimination.{cells, entries}
-use Rattle.codes.specs.Decoding.{Beside}
+use Rattle.codes.specs.steps.Elimination.{cells, entries}
+use Rattle.codes.specs.steps.Decoding.{Beside}
 use Rattle.codes.proofs.error_values.write_column.Given as goal
 
 -- the rows before are written, and no other column

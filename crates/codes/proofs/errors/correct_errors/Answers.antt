@@ -1,6 +1,6 @@
 use Rattle.std.proofs.Common.{◌≡◌, map, length, sym, refl, ◌∙◌, true≢false, arith}
 use lib.ListN.{length-map}
-use Rattle.codes.specs.Elimination.{entries}
+use Rattle.codes.specs.steps.Elimination.{entries}
 use Rattle.codes.proofs.Outcomes.{all_zero_at, all_zero_of, outcome_right, outcome_wrong}
 use Rattle.codes.proofs.errors.correct_errors.Goals as goal
 

@@ -1,5 +1,5 @@
 use Rattle.std.proofs.Common.{◌≤◌, map, length, take}
-use Rattle.codes.specs.Decoding.{CorrectedPlaces}
+use Rattle.codes.specs.steps.Decoding.{CorrectedPlaces}
 use Rattle.codes.proofs.errors.correct_places.Given as goal
 
 -- the errors before are off

@@ -3,7 +3,7 @@ use lib.ListN.{length-map}
 use Rattle.std.proofs.lemmas.List.{length_push}
 use Rattle.std.proofs.lemmas.Slice.Zip.{zip_turn}
 use Rattle.gf.specs.Theory.{pow}
-use Rattle.codes.specs.Elimination.{entries}
+use Rattle.codes.specs.steps.Elimination.{entries}
 use Rattle.codes.proofs.Registers.{read}
 use Rattle.codes.proofs.Corrections.{rest_more}
 use Rattle.codes.proofs.errors.take_all_off.Goals as goal

@@ -1,6 +1,6 @@
 use Rattle.std.proofs.Common.{map, length, take}
-use Rattle.codes.specs.Elimination.{entries}
-use Rattle.codes.specs.Decoding.{Rest}
+use Rattle.codes.specs.steps.Elimination.{entries}
+use Rattle.codes.specs.steps.Decoding.{Rest}
 use Rattle.codes.proofs.errors.take_all_off.Given as goal
 
 -- the errors before are off the syndromes

@@ -1,6 +1,6 @@
 use Rattle.std.proofs.Common.{◌<◌, length, sym, ap, ◌∙◌, ap₂, add-one, arith}
 use Rattle.gf.specs.Theory.{pow}
-use Rattle.codes.specs.Elimination.{entries}
+use Rattle.codes.specs.steps.Elimination.{entries}
 use Rattle.codes.proofs.Cells.{place_at, place-next}
 use Rattle.codes.proofs.errors.take_off.Goals as goal
 

@@ -1,6 +1,6 @@
 use Rattle.std.proofs.Common.{ℕ, ap, ◌∙◌, ap₂, mod-eq_of_lt, arith}
 use Rattle.gf.specs.Theory.{pow}
-use Rattle.codes.specs.Elimination.{entries}
+use Rattle.codes.specs.steps.Elimination.{entries}
 use Rattle.codes.proofs.Cells.{place_set, place_other}
 use Rattle.codes.proofs.Cells.{place_at}
 use Rattle.codes.proofs.Generating.{factor_more, factor_end}

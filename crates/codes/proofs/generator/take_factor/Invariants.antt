@@ -1,7 +1,7 @@
 use Rattle.std.proofs.Common.{◌+◌}
 use Rattle.codes.specs.Codewords.{generator}
-use Rattle.codes.specs.Elimination.{entries}
-use Rattle.codes.specs.Filling.{FactorTaken}
+use Rattle.codes.specs.steps.Elimination.{entries}
+use Rattle.codes.specs.steps.Filling.{FactorTaken}
 use Rattle.codes.proofs.generator.take_factor.Given as goal
 
 -- the places before the index hold the product, the others are as they were

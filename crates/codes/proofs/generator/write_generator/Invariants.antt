@@ -1,6 +1,6 @@
 use Rattle.codes.specs.Codewords.{generator}
-use Rattle.codes.specs.Elimination.{entries}
-use Rattle.codes.specs.Filling.{Holds}
+use Rattle.codes.specs.steps.Elimination.{entries}
+use Rattle.codes.specs.steps.Filling.{Holds}
 use Rattle.codes.proofs.generator.write_generator.Given as goal
 
 -- the product of the factors before

@@ -6,7 +6,7 @@ use Rattle.std.proofs.lemmas.List.FromFn.{length-enumerate_from, get_or-enumerat
 use Rattle.std.proofs.lemmas.Iterator.Adapters.{YieldsList-from_rev_slice}
 use Rattle.std.proofs.lemmas.Iterator.Consumers.{YieldsList-from_enumerate, YieldsList-turn}
 use Rattle.std.proofs.lemmas.Simd.{length-chunk}
-use Rattle.codes.specs.Elimination.{cells, entries}
+use Rattle.codes.specs.steps.Elimination.{cells, entries}
 use Rattle.codes.proofs.Cells.{part}
 use Rattle.codes.proofs.locator.fill_row.Goals as goal
 

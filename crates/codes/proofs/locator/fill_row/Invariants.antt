@@ -1,5 +1,5 @@
 use Rattle.std.proofs.Common.{◌≡◌, ℕ, ◌+◌, ◌-◌, ◌<◌, length}
-use Rattle.codes.specs.Elimination.{cells, entries, Others}
+use Rattle.codes.specs.steps.Elimination.{cells, entries, Others}
 use Rattle.codes.proofs.locator.fill_row.Given as goal
 
 -- the columns before are written, and no other row

@@ -1,6 +1,6 @@
 use Rattle.std.proofs.Common.{◌≡◌, ◌+◌}
-use Rattle.codes.specs.Elimination.{cells, entries}
-use Rattle.codes.specs.Decoding.{Recurring}
+use Rattle.codes.specs.steps.Elimination.{cells, entries}
+use Rattle.codes.specs.steps.Decoding.{Recurring}
 use Rattle.codes.proofs.locator.fill_rows.Given as goal
 
 -- the rows before are filled

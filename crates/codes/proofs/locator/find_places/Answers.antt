@@ -2,7 +2,7 @@ use Rattle.std.proofs.Common.{◌≡◌, ℕ, ◌+◌, ◌-◌, ◌<◌, [], ◌
 use lib.ListN.{length-map}
 use Rattle.gf.specs.Theory.{pow}
 use Rattle.codes.specs.Polynomials.{zeros}
-use Rattle.codes.specs.Decoding.{point, terms_of, total, Suspects}
+use Rattle.codes.specs.steps.Decoding.{point, terms_of, total, Suspects}
 use Rattle.codes.proofs.PowerSums.{unequal}
 use Rattle.codes.proofs.Searching.{terms_one, terms_terms, hit, miss, room, points-next}
 use Rattle.codes.proofs.Suspects.{suspects-none}

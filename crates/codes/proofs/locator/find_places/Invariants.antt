@@ -1,6 +1,6 @@
 use Rattle.std.proofs.Common.{◌≡◌, ◌-◌, ◌<◌, map, length, take}
 use Rattle.gf.specs.Theory.{pow}
-use Rattle.codes.specs.Decoding.{point, terms_of, Suspects}
+use Rattle.codes.specs.steps.Decoding.{point, terms_of, Suspects}
 use Rattle.codes.proofs.locator.find_places.Given as goal
 
 -- the terms and the point are those of the next place, and the roots behind it are found

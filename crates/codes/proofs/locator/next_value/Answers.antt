@@ -3,7 +3,7 @@ use lib.ListN.{length-map}
 use lib.Seq.{map-set}
 use Rattle.std.proofs.lemmas.List.{get_or-map}
 use Rattle.gf.specs.Theory.{pow}
-use Rattle.codes.specs.Decoding.{terms_of}
+use Rattle.codes.specs.steps.Decoding.{terms_of}
 use Rattle.codes.proofs.Registers.{advance, next_as_was, whole}
 use Rattle.codes.proofs.Searching.{length-terms_of, terms_at, total-next}
 use Rattle.codes.proofs.locator.next_value.Goals as goal

@@ -1,5 +1,5 @@
 use Rattle.std.proofs.Common.{◌≡◌, ◌++◌, map, take, drop}
-use Rattle.codes.specs.Decoding.{terms_of, total}
+use Rattle.codes.specs.steps.Decoding.{terms_of, total}
 use Rattle.codes.proofs.locator.next_value.Given as goal
 
 -- the terms before k are summed up and have gone on, those from k on are as they were

@@ -1,5 +1,5 @@
-use Rattle.codes.specs.Elimination.{entries}
-use Rattle.codes.specs.Syndromes.{Taken}
+use Rattle.codes.specs.steps.Elimination.{entries}
+use Rattle.codes.specs.steps.Syndromes.{Taken}
 use Rattle.codes.proofs.syndromes.take_in.Given as goal
 
 -- the places before have taken the symbol in

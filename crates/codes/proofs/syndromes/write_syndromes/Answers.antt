@@ -1,5 +1,5 @@
 use Rattle.std.proofs.Common.{length, sym, ◌∙◌, arith, rules}
-use Rattle.codes.specs.Elimination.{entries}
+use Rattle.codes.specs.steps.Elimination.{entries}
 use Rattle.codes.proofs.Elements.{zero-mul}
 use Rattle.codes.proofs.Cells.{place-zeros}
 use Rattle.codes.proofs.Taking.{raised_more, syndromes_last, syndromes_empty}

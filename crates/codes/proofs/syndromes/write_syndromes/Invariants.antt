@@ -1,5 +1,5 @@
 use Rattle.std.proofs.Common.{map, length, take}
-use Rattle.codes.specs.Elimination.{entries}
+use Rattle.codes.specs.steps.Elimination.{entries}
 use Rattle.codes.proofs.Taking.{Raised}
 use Rattle.codes.proofs.syndromes.write_syndromes.Given as goal
 

@@ -1,6 +1,6 @@
 -- The block that was read is what repairing the received one gives.
 use Rattle.std.proofs.Common.{ℕ, ◌∙◌, subst}
-use Rattle.reception.specs.Stages.{Reads}
+use Rattle.reception.specs.steps.Calls.{Reads}
 use Rattle.reception.proofs.Judging.{repair_of}
 use Rattle.reception.proofs.blocks.open_block.Goals as goal
 

@@ -1,7 +1,7 @@
 -- The block that was read is what repairing the received one gives, with no row left.
 use Rattle.std.proofs.Common.{ℕ, ◌∙◌, subst}
 use Rattle.reception.specs.Blocks.{RepairOf}
-use Rattle.reception.specs.Stages.{Reads}
+use Rattle.reception.specs.steps.Calls.{Reads}
 use Rattle.reception.proofs.Judging.{repair_of, read_clean}
 use Rattle.reception.proofs.blocks.open_clean_block.Goals as goal
 

@@ -2,7 +2,7 @@ use Rattle.std.proofs.Common.{◌++◌, replicate, ap, ◌∙◌, ap₂}
 use Rattle.gf.specs.Bits.{bits}
 use Rattle.gf.specs.Fields.{gf2}
 use Rattle.gf.specs.declared.gf2.Gf2.{Gf2}
-use Rattle.gf.specs.Numbers.{bits-zero}
+use Rattle.gf.specs.laws.Numbers.{bits-zero}
 use Rattle.codes.specs.Division.{remainder_of, admitted}
 use Rattle.codes.proofs.Answering.{answered_value}
 use Rattle.block.specs.Checks.{meanings}

@@ -5,7 +5,7 @@ use Rattle.std.proofs.lemmas.Result.{err_from_is_err_and}
 use Rattle.gf.specs.Refusals.{first_refusal}
 use Rattle.block.specs.SuperFrames.{layout_for}
 use Rattle.block.specs.Writing.{add_complaints, OneMore}
-use Rattle.block.specs.WritingSteps.{PlacesAll}
+use Rattle.block.specs.steps.Writing.{PlacesAll}
 use Rattle.block.proofs.PlacingAll.{PlacedTo, placed_none, placed_more, refused_at, too_few, placed_all}
 use Rattle.block.proofs.writer.OpenWriter.with_places_for.Goals.{After-reserve}
 use Rattle.block.proofs.writer.OpenWriter.with_places_for.Goals as goal

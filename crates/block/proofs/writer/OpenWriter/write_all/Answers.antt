@@ -1,6 +1,6 @@
 use Rattle.std.proofs.Common.{ap, ◌∙◌, subst, arith}
 use Rattle.interleaver.specs.Rows.{ChecksFilled}
-use Rattle.block.specs.WritingSteps.{with_unit_checks}
+use Rattle.block.specs.steps.Writing.{with_unit_checks}
 use Rattle.block.proofs.Sealing.{with_fire_word, sealed_is}
 use Rattle.block.proofs.writer.OpenWriter.write_all.Goals as goal
 

@@ -1,5 +1,5 @@
 use Rattle.std.proofs.Common.{◌≡◌}
-use Rattle.codes.specs.Elimination.{cells, Below}
+use Rattle.codes.specs.steps.Elimination.{cells, Below}
 use Rattle.codes.proofs.elimination.Matrix.clear_below.Given as goal
 
 -- the rows before are cleared

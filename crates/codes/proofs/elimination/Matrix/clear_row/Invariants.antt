@@ -1,5 +1,5 @@
 use Rattle.std.proofs.Common.{◌≡◌}
-use Rattle.codes.specs.Elimination.{cells, Added, Others}
+use Rattle.codes.specs.steps.Elimination.{cells, Added, Others}
 use Rattle.codes.proofs.elimination.Matrix.clear_row.Given as goal
 
 -- the multiple is added in the columns before, and the other rows are as they were

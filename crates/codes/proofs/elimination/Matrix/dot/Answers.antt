@@ -2,7 +2,7 @@ use Rattle.std.proofs.Common.{◌≡◌, ◌+◌, ◌*◌, ◌-◌, [], ◌∷�
 use Rattle.std.proofs.lemmas.List.{length_push}
 use Rattle.std.proofs.lemmas.Simd.{length-chunk}
 use Rattle.std.proofs.lemmas.Slice.Zip.{zip_turn, zip_end}
-use Rattle.codes.specs.Elimination.{cells, entries}
+use Rattle.codes.specs.steps.Elimination.{cells, entries}
 use Rattle.codes.proofs.Cells.{row_in, part, cell_part}
 use Rattle.codes.proofs.Linear.{sent-none, sent_more, sent_past}
 use Rattle.codes.proofs.elimination.Matrix.dot.Goals as goal

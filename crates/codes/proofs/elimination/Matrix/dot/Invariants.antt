@@ -1,5 +1,5 @@
 use Rattle.std.proofs.Common.{◌≡◌, ◌+◌, length}
-use Rattle.codes.specs.Elimination.{cells, entries, sent}
+use Rattle.codes.specs.steps.Elimination.{cells, entries, sent}
 use Rattle.codes.proofs.elimination.Matrix.dot.Given as goal
 
 -- the sum over the columns before

@@ -1,5 +1,5 @@
 use Rattle.std.proofs.Common.{◌≡◌, ℕ, ◌<◌, ◌≤◌}
-use Rattle.codes.specs.Elimination.{cells}
+use Rattle.codes.specs.steps.Elimination.{cells}
 use Rattle.codes.proofs.elimination.Matrix.find_pivot.Given as goal
 
 -- the rows before are zero in the column

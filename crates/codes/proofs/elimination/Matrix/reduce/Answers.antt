@@ -1,5 +1,5 @@
 use Rattle.std.proofs.Common.{◌∙◌, arith}
-use Rattle.codes.specs.Elimination.{cells}
+use Rattle.codes.specs.steps.Elimination.{cells}
 use Rattle.codes.proofs.Stages.{keeps_more, steps_more}
 use Rattle.codes.proofs.elimination.Matrix.reduce.Goals as goal
 

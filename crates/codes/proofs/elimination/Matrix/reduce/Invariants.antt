@@ -1,5 +1,5 @@
 use Rattle.std.proofs.Common.{◌≡◌}
-use Rattle.codes.specs.Elimination.{cells, Keeps, Steps}
+use Rattle.codes.specs.steps.Elimination.{cells, Keeps, Steps}
 use Rattle.codes.proofs.elimination.Matrix.reduce.Given as goal
 
 -- the columns before are done

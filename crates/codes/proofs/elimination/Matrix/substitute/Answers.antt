@@ -1,5 +1,5 @@
 use Rattle.std.proofs.Common.{◌-◌, sym, ◌∙◌, ap₂, arith}
-use Rattle.codes.specs.Elimination.{cells, entries}
+use Rattle.codes.specs.steps.Elimination.{cells, entries}
 use Rattle.codes.proofs.Cells.{place_set, place_other}
 use Rattle.codes.proofs.Stages.{solved_none, solved_more}
 use Rattle.codes.proofs.elimination.Matrix.substitute.Goals as goal

@@ -1,4 +1,4 @@
-use Rattle.codes.specs.Elimination.{cells, entries, Solved}
+use Rattle.codes.specs.steps.Elimination.{cells, entries, Solved}
 use Rattle.codes.proofs.elimination.Matrix.substitute.Given as goal
 
 -- the rows from here on send the vector to zero

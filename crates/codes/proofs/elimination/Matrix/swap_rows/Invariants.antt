@@ -1,5 +1,5 @@
 use Rattle.std.proofs.Common.{◌≡◌}
-use Rattle.codes.specs.Elimination.{cells, Swapped}
+use Rattle.codes.specs.steps.Elimination.{cells, Swapped}
 use Rattle.codes.proofs.elimination.Matrix.swap_rows.Given as goal
 
 -- the rows have changed places in the columns before

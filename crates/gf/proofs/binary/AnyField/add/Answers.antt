@@ -1,6 +1,6 @@
 use Rattle.std.proofs.Common.{◌∙◌, ap₂}
 use Rattle.gf.specs.Bits.{plus}
-use Rattle.gf.specs.Numbers.{bits-xor}
+use Rattle.gf.specs.laws.Numbers.{bits-xor}
 use Rattle.gf.proofs.binary.AnyField.add.Goals as goal
 
 pub returns : goal.returns

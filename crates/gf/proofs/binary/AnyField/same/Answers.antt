@@ -1,6 +1,6 @@
 use Rattle.std.proofs.Common.{◌∙◌, ap₂}
 use Rattle.gf.specs.Bits.{equal}
-use Rattle.gf.specs.Numbers.{bits-equal_whole}
+use Rattle.gf.specs.laws.Numbers.{bits-equal_whole}
 use Rattle.gf.proofs.binary.AnyField.same.Goals as goal
 
 pub returns : goal.returns

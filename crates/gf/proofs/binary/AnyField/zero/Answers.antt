@@ -1,5 +1,5 @@
 use Rattle.std.proofs.Common.{◌∙◌}
-use Rattle.gf.specs.Numbers.{bits-zero}
+use Rattle.gf.specs.laws.Numbers.{bits-zero}
 use Rattle.gf.proofs.binary.AnyField.zero.Goals as goal
 
 pub returns : goal.returns

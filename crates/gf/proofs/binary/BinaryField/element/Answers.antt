@@ -1,6 +1,6 @@
 use Rattle.std.proofs.Common.{◌%◌, ◌∙◌, ap}
 use Rattle.gf.specs.Bits.{bits}
-use Rattle.gf.specs.Numbers.{bits-mod}
+use Rattle.gf.specs.laws.Numbers.{bits-mod}
 use Rattle.gf.proofs.binary.BinaryField.element.Goals as goal
 
 pub returns-clause-value : goal.returns-clause-value

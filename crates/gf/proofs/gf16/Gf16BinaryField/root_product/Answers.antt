@@ -1,8 +1,8 @@
 use Rattle.std.proofs.Common.{◌%◌, ap, ◌∙◌, arith}
 use Rattle.gf.specs.Theory.{pow}
 use Rattle.gf.specs.Fields.{low16, gf16}
-use Rattle.gf.specs.Powers.{root-product, log-le}
-use Rattle.gf.specs.FieldLaws.{tables16, sound16}
+use Rattle.gf.specs.laws.Powers.{root-product, log-le}
+use Rattle.gf.specs.laws.FieldLaws.{tables16, sound16}
 use Rattle.gf.proofs.gf16.Gf16BinaryField.root_product.Goals as goal
 
 pub bounds-a : goal.bounds-a

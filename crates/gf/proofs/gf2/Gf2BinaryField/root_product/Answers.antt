@@ -1,5 +1,5 @@
 use Rattle.std.proofs.Common.{◌%◌}
-use Rattle.gf.specs.Numbers.{root-power-one}
+use Rattle.gf.specs.laws.Numbers.{root-power-one}
 use Rattle.gf.proofs.gf2.Gf2BinaryField.root_product.Goals as goal
 
 pub returns : goal.returns

@@ -1,4 +1,4 @@
-use Rattle.gf.specs.Numbers.{bit-inverse}
+use Rattle.gf.specs.laws.Numbers.{bit-inverse}
 use Rattle.gf.proofs.gf2.Gf2BinaryProduct.inverse.Goals as goal
 
 pub returns : goal.returns

@@ -1,4 +1,4 @@
-use Rattle.gf.specs.Numbers.{bits-and}
+use Rattle.gf.specs.laws.Numbers.{bits-and}
 use Rattle.gf.proofs.gf2.Gf2BinaryProduct.product.Goals as goal
 
 pub returns : goal.returns

@@ -2,9 +2,9 @@ use Rattle.std.proofs.Common.{◌%◌, ap, ◌∙◌, arith}
 use Rattle.gf.specs.Theory.{pow}
 use Rattle.gf.specs.Bits.{bits}
 use Rattle.gf.specs.Fields.{low256, gf256}
-use Rattle.gf.specs.Computed.{root_products_at}
-use Rattle.gf.specs.Powers.{root-product}
-use Rattle.gf.specs.FieldLaws.{tables256, sound256, root_products256}
+use Rattle.gf.specs.laws.Computed.{root_products_at}
+use Rattle.gf.specs.laws.Powers.{root-product}
+use Rattle.gf.specs.laws.FieldLaws.{tables256, sound256, root_products256}
 use Rattle.gf.proofs.gf256.Gf256BinaryField.root_product.Goals as goal
 
 pub returns : goal.returns

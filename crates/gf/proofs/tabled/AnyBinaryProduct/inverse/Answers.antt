@@ -1,4 +1,4 @@
-use Rattle.gf.specs.Powers.{inverted}
+use Rattle.gf.specs.laws.Powers.{inverted}
 use Rattle.gf.proofs.tabled.AnyBinaryProduct.inverse.Goals as goal
 
 pub returns : goal.returns

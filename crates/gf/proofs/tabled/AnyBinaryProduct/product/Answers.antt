@@ -1,5 +1,5 @@
 use Rattle.std.proofs.Common.{arith}
-use Rattle.gf.specs.Powers.{product, log-le}
+use Rattle.gf.specs.laws.Powers.{product, log-le}
 use Rattle.gf.proofs.tabled.AnyBinaryProduct.product.Goals as goal
 
 pub bounds-tables-a : goal.bounds-tables-a

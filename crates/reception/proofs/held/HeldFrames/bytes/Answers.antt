@@ -2,7 +2,7 @@ use Rattle.std.proofs.Common.{◌*◌, ◌≤◌, sym, ap, ap₂, ◌∙◌, ari
 use Rattle.std.proofs.lemmas.Nat.{mul-le}
 use lib.Seq.{length-take-le}
 use Rattle.std.specs.List.{concat}
-use Rattle.reception.specs.Holding.{Holding}
+use Rattle.reception.specs.steps.Holding.{Holding}
 use Rattle.reception.proofs.Framing.{frames_counted, concat-frames}
 use Rattle.reception.proofs.held.HeldFrames.bytes.Goals as goal
 

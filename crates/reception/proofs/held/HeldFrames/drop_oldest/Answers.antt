@@ -1,5 +1,5 @@
 use Rattle.std.proofs.Common.{◌≡◌, ℕ, ◌-◌, List, drop, length, ap, ◌∙◌, arith}
-use Rattle.reception.specs.Holding.{Holding, holding}
+use Rattle.reception.specs.steps.Holding.{Holding, holding}
 use Rattle.reception.proofs.Framing.{frames_counted, frames, frames_copied}
 use Rattle.reception.proofs.held.HeldFrames.drop_oldest.Goals as goal
 

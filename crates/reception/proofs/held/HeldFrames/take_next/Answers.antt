@@ -3,7 +3,7 @@ use Rattle.std.proofs.lemmas.Nat.{mul-le}
 use Rattle.std.proofs.lemmas.List.Elements.{All-head}
 use Rattle.std.specs.List.{All}
 use borrow.Rule.Slice.PartMut.{put_mid}
-use Rattle.reception.specs.Holding.{Holding, holding}
+use Rattle.reception.specs.steps.Holding.{Holding, holding}
 use Rattle.reception.proofs.Framing.{frames_counted, frames_written, given}
 use Rattle.reception.proofs.held.HeldFrames.take_next.Goals as goal
 

@@ -7,9 +7,9 @@ use Rattle.sources.specs.declared.source.Next.TheVariants.{Frame}
 use Rattle.reception.specs.declared.mode.Mode.TheVariants.{Hunting, Locked}
 use Rattle.reception.specs.Receptions.{Reception, pulled}
 use Rattle.reception.specs.Blocks.{Delivers, Misread, IsCleanAndLegible}
-use Rattle.reception.specs.Holding.{Holding}
+use Rattle.reception.specs.steps.Holding.{Holding}
 use Rattle.reception.specs.Rules.{Rule, Ready, Fifth, received, pull_refused, nothing_waits, gathers, finds, passes_by, follows, misses_one, loses_lock}
-use Rattle.reception.specs.Stages.{PullFits}
+use Rattle.reception.specs.steps.Calls.{PullFits}
 use Rattle.reception.proofs.Ruling.{same_receiver, same_buffer, Took, took, took_length, none_waits, unchanged, block_long, four_left, taken_to}
 use Rattle.reception.proofs.receiver.Receiver.pull.Given.{Over}
 use Rattle.reception.proofs.receiver.Receiver.pull.Goals.{In-Frame}

@@ -1,5 +1,5 @@
 use Rattle.std.proofs.Common.{ap}
-use Rattle.reception.specs.Holding.{Holding}
+use Rattle.reception.specs.steps.Holding.{Holding}
 use Rattle.reception.proofs.Ruling.{same_receiver, restarts_with}
 use Rattle.reception.proofs.receiver.Receiver.reset.Goals as goal
 

@@ -9,7 +9,7 @@ use Rattle.std.proofs.lemmas.Nat.{and_mod, xor_mod, xor_shr}
 use Rattle.gf.specs.Bits.{Bits, differ, bits, number, zeros, plus, equal, only, shift, out, times_x, times_row, times}
 use Rattle.gf.specs.Theory.{pow}
 use Rattle.gf.specs.Fields.{low2, gf2}
-use Rattle.gf.specs.Ring.{pair, equal_yes, equal_no}
+use Rattle.gf.specs.laws.Ring.{pair, equal_yes, equal_no}
 
 bit : (b : Bool) → cond b 1 0 < 2
 bit true = lit< tt

@@ -2,7 +2,7 @@
 use Rattle.std.specs.Prelude.{◌≡◌, ℕ, zero, suc, ◌+◌, ◌-◌, ◌^◌, ◌<◌, Bool, true, false, not, ◌&&◌, T, List, [], ◌∷◌, ◌==◌, nat_eq, nat_lt, slice_index, slice_index_or}
 use Rattle.std.proofs.Common.{sym, ap, ap₂, ◌∙◌, add-zero, zero-add, add-suc, suc-add, le_of_suc-le-suc, not-suc-le-zero}
 use Rattle.gf.specs.Bits.{Bits, bits, number, zeros, equal, times_x, times}
-use Rattle.gf.specs.Tests.{below}
+use Rattle.gf.specs.laws.Tests.{below}
 
 -- the first n entries are the powers of x from u on
 unfoldable pub walk : (k : ℕ) → Bits k → ℕ → List ℕ → Bits k → Bool

@@ -4,9 +4,9 @@ use Rattle.std.specs.Prelude.{ℕ, List}
 use Rattle.gf.specs.Theory.{Laws}
 use Rattle.gf.specs.Bits.{bits, number, zeros, plus, equal, only, shift, out, times_x, times_row, times}
 use Rattle.gf.specs.Fields.{low2, low16, low256, gf2, gf16, gf256}
-use Rattle.gf.specs.Tests.{below}
-use Rattle.gf.specs.Computed.{walk, entry, turned, Tables, tables, Sound, listed, root_products}
-use Rattle.gf.specs.Powers.{laws}
+use Rattle.gf.specs.laws.Tests.{below}
+use Rattle.gf.specs.laws.Computed.{walk, entry, turned, Tables, tables, Sound, listed, root_products}
+use Rattle.gf.specs.laws.Powers.{laws}
 
 unfoldable pub tables2 : Tables
 unfolding tables bits low2 number zeros plus only shift out times_x

@@ -9,10 +9,10 @@ use Rattle.std.specs.Bool.{passes}
 use Rattle.gf.specs.Theory.{Laws, power}
 use Rattle.gf.specs.Bits.{Bits, bits, number, zeros, equal, times_x, times}
 use Rattle.gf.specs.Fields.{operations}
-use Rattle.gf.specs.Tests.{and_left, and_right, below_at}
-use Rattle.gf.specs.Numbers.{bits-number, number_lt}
-use Rattle.gf.specs.Computed.{walk, entry, turned, Tables, Sound}
-use Rattle.gf.specs.Ring.{plus_assoc, plus_comm, plus-zeros, plus_self, equal_yes, equal_no, times-plus, times-zeros, times-times_x, times_comm, times_assoc}
+use Rattle.gf.specs.laws.Tests.{and_left, and_right, below_at}
+use Rattle.gf.specs.laws.Numbers.{bits-number, number_lt}
+use Rattle.gf.specs.laws.Computed.{walk, entry, turned, Tables, Sound}
+use Rattle.gf.specs.laws.Ring.{plus_assoc, plus_comm, plus-zeros, plus_self, equal_yes, equal_no, times-plus, times-zeros, times-times_x, times_comm, times_assoc}
 
 -- the powers of x
 unfoldable pub up : (k : ℕ) → Bits k → ℕ → Bits k

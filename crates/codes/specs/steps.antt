@@ -1,0 +1,6 @@
+-- What private steps promise each other. No public contract speaks of these.
+pub mod Filling
+pub mod Elimination
+pub mod Syndromes
+pub mod Decoding
+pub mod Matrices

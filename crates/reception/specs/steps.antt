@@ -1,0 +1,3 @@
+-- What private steps promise each other. No public contract speaks of these.
+pub mod Calls
+pub mod Holding
