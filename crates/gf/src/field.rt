@@ -45,7 +45,15 @@ pub trait Field: Copy {
 
     // The product with a power of the root below the sixteenth: the exponent counts modulo 16.
     fn times_root_power(self, exponent: usize) -> Self
-        ensures { mean result ≡ field.mul (mean self) (pow field field.root (exponent % 16)) };
+        ensures { mean result ≡ field.mul (mean self) (pow field field.root (exponent % 16)) }
+    {
+        let root = Self::root();
+        let mut product = self;
+        for _ in 0..exponent % 16 {
+            product = product.mul(root);
+        }
+        product
+    }
 
     // They keep all laws of a field.
     ghost laws: { Laws field };
