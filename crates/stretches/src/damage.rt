@@ -27,7 +27,7 @@ fn spoil(block: &mut [u8], size: usize, wrong: usize)
 }
 
 // The frames of a recording that a receiver gets: the first super frame, some frames of the second, and the spoiled ones behind.
-pub fn damaged(
+pub(crate) fn damaged(
     alloc: Global,
     size: usize,
     damage: Damage,

@@ -14,7 +14,7 @@ mod word;
 
 use damage::{Damage, damaged};
 use failure::Failure;
-use gf::{Field, Gf2, Gf16, Gf256};
+use gf::{Field, Gf2, Gf16, Gf256, Refusal};
 use losses::try_losses;
 use programs::exit_code;
 use std::fs;
@@ -85,8 +85,17 @@ fn show_fields(rt: &HostRuntime, recorded: Recorded, recording: &[u8]) -> Result
 }
 
 // Damages the recording, and prints how many super frames a receiver loses with each patience.
-fn show_losses(rt: &HostRuntime, recorded: Recorded, recording: &[u8], wrong: usize) -> Result<(), Failure> {
+fn show_losses(
+    rt: &HostRuntime,
+    recorded: Recorded,
+    recording: &[u8],
+    wrong: usize,
+) -> Result<(), Failure> {
     let Recorded { name, size } = recorded;
+    if !(1..=24).contains(&size) {
+        return Err(Failure::Refused(Refusal::Size));
+    }
+    let wrong = wrong.min(5);
     for patience in 1..=3 {
         let damage = Damage {
             strays: patience,
@@ -95,7 +104,9 @@ fn show_losses(rt: &HostRuntime, recorded: Recorded, recording: &[u8], wrong: us
         let frames = damaged(rt.alloc(), size, damage, recording)?;
         let start = 5 + damage.strays;
         match try_losses(rt.alloc(), size, patience, start, wrong * size, &frames)? {
-            Some(losses) => println!(rt; "{name}, patience {patience}, {wrong} wrong bytes in each row: {losses}")?,
+            Some(losses) => println!(rt;
+                "{name}, patience {patience}, {wrong} wrong bytes in each row: {losses}"
+            )?,
             None => println!(rt; "{name}: the premises do not hold")?,
         }
     }

@@ -78,7 +78,14 @@ pub fn receive<F: Field>(
         tally,
     };
     let (corrected, _source) = correct_and_drive(
-        word, checks, work, size, source, &calls, &mut buffer, &mut deliveries,
+        word,
+        checks,
+        work,
+        size,
+        source,
+        &calls,
+        &mut buffer,
+        &mut deliveries,
     );
     Ok((corrected, deliveries.tally))
 }

@@ -57,7 +57,10 @@ impl fmt::Display for Trial {
         if as_written == super_frames && otherwise == 0 {
             write!(f, "all delivered as written; ")?;
         } else {
-            write!(f, "{as_written} delivered as written, {otherwise} otherwise; ")?;
+            write!(
+                f,
+                "{as_written} delivered as written, {otherwise} otherwise; "
+            )?;
         }
         match corrected {
             Ok(places) => write!(f, "{places} places corrected"),
