@@ -63,11 +63,14 @@ OpeningWhatWasSealed = (s : Settings) (units : List (List ℕ)) → All AreBytes
 -- The calls of a writer, made with these units in their order and with a buffer that nothing else is written to: no `add` is refused, the
 -- units that are in stay in the buffer, and `seal` is not refused and makes this block.
 pub record CallsMake (units : List (List ℕ)) (begun : OpenWriter) (buffer block : List ℕ) : Type 0 where
+  -- with the earlier units in, the next one is accepted
   pub accepted : (earlier : List (List ℕ)) (unit : List ℕ) (later : List (List ℕ)) → units ≡ earlier ++ (unit ∷ later)
       → (w : OpenWriter) (held : List ℕ) → AddsAll begun buffer earlier w held
       → (after : OpenWriter) (written : List ℕ) (answer : Result Unit Refusal) → Adds w after unit held written answer → answer ≡ Ok tt
+  -- whatever units were added stand in the buffer
   pub kept : (earlier : List (List ℕ)) (w : OpenWriter) (held : List ℕ) → AddsAll begun buffer earlier w held
       → units_in w.starts w.added held ≡ earlier
+  -- with all of them in, sealing is accepted, and makes the block
   pub sealed : (w : OpenWriter) (held : List ℕ) → AddsAll begun buffer units w held
       → (after : List ℕ) (answer : Result SealedWriter Refusal) → Seals w held after answer
       → (sealed : SealedWriter) × (answer ≡ Ok sealed) × (after ≡ block)
