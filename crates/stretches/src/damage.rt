@@ -1,4 +1,4 @@
-// A recording in which a super frame breaks off, and those behind it come with wrong bytes.
+// A recording in which the beginning of a super frame is lost, and those behind it come with wrong bytes.
 ghost use Rattle.std.specs.Prelude.{◌≤◌};
 
 use std::alloc::{AllocError, Global};
@@ -6,7 +6,7 @@ use std::alloc::{AllocError, Global};
 // What befalls a recording.
 #[derive(Clone, Copy)]
 pub struct Damage {
-    // How many frames are left of the second super frame, which breaks off.
+    // How many frames are left of the second super frame, whose beginning is lost.
     pub strays: usize,
     // How many bytes are wrong in each row of the super frames behind it: at most five.
     pub wrong: usize,
@@ -26,7 +26,7 @@ fn spoil(block: &mut [u8], size: usize, wrong: usize)
     }
 }
 
-// The frames of a recording that a receiver gets: the first super frame, some frames of the second, and the spoiled ones behind.
+// The frames of a recording that a receiver gets: the first super frame, the last frames of the second, and the spoiled ones behind.
 pub(crate) fn damaged(
     alloc: Global,
     size: usize,
@@ -41,8 +41,8 @@ pub(crate) fn damaged(
     if let Some(whole) = super_frames.next() {
         frames.extend_from_slice(whole)?;
     }
-    if let Some(broken_off) = super_frames.next() {
-        for frame in broken_off.chunks(24 * size).take(damage.strays) {
+    if let Some(broken) = super_frames.next() {
+        for frame in broken.chunks(24 * size).skip(5_usize.saturating_sub(damage.strays)) {
             frames.extend_from_slice(frame)?;
         }
     }

@@ -5,10 +5,10 @@ use Rattle.std.proofs.lemmas.Result.{err_from_is_err_and}
 use Rattle.gf.specs.Refusals.{first_refusal}
 use Rattle.block.specs.SuperFrames.{layout_for}
 use Rattle.block.specs.Writing.{add_complaints, OneMore}
-use Rattle.block.specs.steps.Writing.{PlacesAll}
+use Rattle.block.specs.steps.Writing.{Admits}
 use Rattle.block.proofs.PlacingAll.{PlacedTo, placed_none, placed_more, refused_at, too_few, placed_all}
-use Rattle.block.proofs.writer.OpenWriter.with_places_for.Goals.{After-reserve}
-use Rattle.block.proofs.writer.OpenWriter.with_places_for.Goals as goal
+use Rattle.block.proofs.writer.OpenWriter.check_units.Goals.{After-reserve}
+use Rattle.block.proofs.writer.OpenWriter.check_units.Goals as goal
 
 pub loop-unit-init : goal.loop-unit-init
 loop-unit-init c =
@@ -37,7 +37,7 @@ returns-in_err-reserve c =
     let refused = refused_at c.args.settings units c.loop-unit.unit-index w c.in_err-reserve.field-0.0
     (omega (arith, length-map c.args.units.now (λ unit. unit.now))) (few k) c.loop-unit.invariant
     (subst (λ (n : ℕ). first_refusal (add_complaints w n) ≡ Some c.in_err-reserve.field-0.0) (long k) c.in_err-reserve.ensures.0) in
-    subst (PlacesAll c.args.settings units) (sym (p.1 ∙ ap Err p.2)) refused
+    subst (Admits c.args.settings units) (sym (p.1 ∙ ap Err p.2)) refused
 
 pub loop-unit-preserved : goal.loop-unit-preserved
 loop-unit-preserved c =

@@ -1,6 +1,6 @@
 use Rattle.std.proofs.Common.{map}
 use Rattle.block.proofs.PlacingAll.{PlacedTo}
-use Rattle.block.proofs.writer.OpenWriter.with_places_for.Given as goal
+use Rattle.block.proofs.writer.OpenWriter.check_units.Given as goal
 
 -- the units before have their places
 abbrev pub invariant-loop-unit : goal.invariant-loop-unit
