@@ -105,7 +105,7 @@ fn show_losses(
         let start = 5 + damage.strays;
         match try_losses(rt.alloc(), size, patience, start, wrong * size, &frames)? {
             Some(losses) => println!(rt;
-                "{name}, patience {patience}, {wrong} wrong bytes in each row: {losses}"
+                "{name}, patience {patience}, wrong bytes in each row {wrong}: {losses}"
             )?,
             None => println!(rt; "{name}: the premises do not hold")?,
         }

@@ -15,7 +15,7 @@ use std::fmt;
 pub struct Trial {
     super_frames: usize,
     tally: Tally,
-    // How many places of the word were corrected.
+    // How many symbols of the word were corrected.
     corrected: Result<usize, Refusal>,
 }
 
@@ -63,7 +63,7 @@ impl fmt::Display for Trial {
             )?;
         }
         match corrected {
-            Ok(places) => write!(f, "{places} places corrected"),
+            Ok(symbols) => write!(f, "symbols corrected {symbols}"),
             Err(refusal) => write!(f, "{refusal}"),
         }
     }
