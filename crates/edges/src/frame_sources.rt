@@ -1,6 +1,6 @@
 // Recordings and queues at their edges.
-use super::{FrameQueue, FrameSource, Next, Recording};
 use gf::Refusal;
+use sources::{FrameQueue, FrameSource, Next, Recording};
 
 // A frame of size 1 that can be told from its 250 neighbours.
 fn frame(number: usize) -> [u8; 24] {

@@ -1,7 +1,7 @@
 // Receivers over a recording, a queue, and a queue made where its check refuses; what patience, resets and foreign frames do.
-use super::{Mode, Pulled, Receiver, Report, UnitState};
 use block::{ChannelMode, DacRate, Parameters, Settings, make_super_frame};
 use gf::Refusal;
+use reception::{Mode, Pulled, Receiver, Report, UnitState};
 use sources::{FrameQueue, Recording};
 
 // A super frame of size 1 with two units.
