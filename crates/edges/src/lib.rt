@@ -2,6 +2,8 @@
 #![tactic(auto)]
 
 #[cfg(test)]
+mod expectation;
+#[cfg(test)]
 mod frame_sources;
 #[cfg(test)]
 mod receivers;
