@@ -1,8 +1,6 @@
 // What came of the frames of a recording.
-ghost use Rattle.std.specs.Prelude.{◌≡◌, ◌≢◌, ◌+◌, ◌^◌, ◌<◌, false, ◌&&◌, ◌==◌};
+ghost use Rattle.std.specs.Prelude.{◌≡◌, ◌≢◌, ◌+◌, ◌^◌, ◌<◌, false, ◌&&◌, ◌==◌, cond, codes};
 
-#[cfg(test)]
-use std::alloc::AllocError;
 use std::fmt;
 
 #[derive(Clone, Copy)]
@@ -74,6 +72,13 @@ impl Tally {
     {
         self.differing == 0 && self.complete
     }
+
+    // What is printed of the bytes.
+    fn verdict(&self) -> &'static str
+        ensures { result.now ≡ cond (self.now.differing == 0 && self.now.complete) (codes "agree") (codes "differ") }
+    {
+        if self.all_agree() { "agree" } else { "differ" }
+    }
 }
 
 impl fmt::Display for Tally {
@@ -95,39 +100,7 @@ impl fmt::Display for Tally {
         if unfinished > 0 {
             write!(f, ", {unfinished} bytes unfinished")?;
         }
-        let verdict = if self.all_agree() { "agree" } else { "differ" };
+        let verdict = self.verdict();
         write!(f, "; bytes {verdict}")
-    }
-}
-
-#[cfg(test)]
-mod tests {
-    use super::*;
-
-    // What is printed once two frames of three bytes were compared, and a third was lost.
-    fn shown(rt: &HostRuntime, second: [u8; 3], complete: bool) -> Result<String, AllocError> {
-        let mut tally = Tally::new(3, 2);
-        tally.compare(&[1, 2, 3], &[1, 2, 3]);
-        tally.compare(&[4, 5, 6], &second);
-        tally.count_lost();
-        tally.finish(1, complete);
-        Ok(format!(in rt.alloc(); "{tally}")?)
-    }
-
-    #[test]
-    fn says_whether_bytes_agree(rt: HostRuntime) {
-        for (second, complete, verdict) in [
-            ([4, 5, 6], true, "agree"),
-            ([4, 5, 7], true, "differ"),
-            ([4, 5, 6], false, "differ"),
-        ] {
-            let text = shown(&rt, second, complete).expect(&rt, "there is enough memory");
-            let counts = "3 frames of 3 bytes came: 1 taken out, 1 left over, 1 lost";
-            let expected = format!(in rt.alloc(); "{counts}, 2 bytes unfinished; bytes {verdict}");
-            assert_eq!(rt;
-                text.as_str(),
-                expected.expect(&rt, "there is enough memory").as_str()
-            );
-        }
     }
 }

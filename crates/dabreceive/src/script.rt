@@ -7,7 +7,7 @@ use std::fmt;
 const COUNT_DIGITS: usize = 47;
 
 // What a line of a script asks for.
-#[derive(Drop, Debug)]
+#[derive(Drop)]
 pub enum Command {
     // With a buffer for a block.
     Pull,

@@ -9,8 +9,6 @@ mod held;
 mod mode;
 mod receiver;
 mod sizes;
-#[cfg(test)]
-mod tests;
 
 pub use answers::{Delivery, Pulled, Report, UnitState};
 pub use calls::{Call, Listener, Outcome};

@@ -16,8 +16,11 @@ pub fn as_error(refusal: Refusal) -> anyhow::Error {
 pub struct Answer(Option<Refusal>);
 
 impl Answer {
-    pub fn of<T: Drop>(outcome: Result<T, Refusal>) -> Answer {
-        Answer(outcome.err())
+    pub fn of<T: Drop, E: Into<Refusal> + Drop>(outcome: Result<T, E>) -> Answer {
+        match outcome {
+            Ok(_) => Answer(None),
+            Err(error) => Answer(Some(error.into())),
+        }
     }
 }
 

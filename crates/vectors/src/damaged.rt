@@ -1,5 +1,5 @@
 // Damaged recordings: what repairing and opening answer, compared with what the texts say of the frames.
-use crate::reading::{parameter_byte, read_block, starts_text, unit_letters};
+use crate::reading::{Reading, Words, read_block};
 use crate::recording::Recording;
 use gf::Refusal;
 use interleaver::Repair;
@@ -22,26 +22,31 @@ fn lists_rows_left(list: &str, repair: &Repair) -> bool {
     rows == repair.rows_left && first == repair.lowest_left
 }
 
+// Whether the text says so of a block that is repaired and open.
+fn tells_of(heap: Global, told: &str, reading: &Reading, block: &[u8]) -> Result<bool, AllocError> {
+    let changed = reading.repair.changed;
+    let Words {
+        parameters,
+        starts,
+        units,
+    } = reading.words(heap, block)?;
+    let front = format!(in heap;
+        "delivered param {parameters:02x} starts {starts} changed {changed} left ["
+    )?;
+    let back = format!(in heap; "] units {units}")?;
+    Ok(
+        told.strip_prefix(front.as_str())
+            .and_then(|rest| rest.strip_suffix(back.as_str()))
+            .is_some_and(|list| lists_rows_left(list, &reading.repair)),
+    )
+}
+
 // Whether the block is refused so, or repaired and opened so.
 fn comes_out_so(heap: Global, size: usize, block: &[u8], told: &str) -> Result<bool, AllocError> {
     let mut block = block.to_vec(heap)?;
     match read_block(size, &mut block) {
         Err(refusal) => Ok(missed_text(heap, refusal)?.as_str() == told),
-        Ok(reading) => {
-            let parameters = parameter_byte(&block);
-            let starts = starts_text(heap, &reading.opened.header())?;
-            let changed = reading.repair.changed;
-            let letters = unit_letters(heap, &reading.opened, &block)?;
-            let front = format!(in heap;
-                "delivered param {parameters:02x} starts {starts} changed {changed} left ["
-            )?;
-            let back = format!(in heap; "] units {letters}")?;
-            Ok(
-                told.strip_prefix(front.as_str())
-                    .and_then(|rest| rest.strip_suffix(back.as_str()))
-                    .is_some_and(|list| lists_rows_left(list, &reading.repair)),
-            )
-        }
+        Ok(reading) => tells_of(heap, told, &reading, &block),
     }
 }
 

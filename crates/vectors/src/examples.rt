@@ -1,6 +1,7 @@
 // Worked examples of the fields, the check words and the header.
-use crate::answer::{RepairText, as_error};
-use block::{Parameters, Received, Refused, fire_word, unit_check};
+use crate::answer::{Answer, RepairText, as_error};
+use crate::reading::repair_block;
+use block::{Parameters, fire_word, unit_check};
 use codes::remainder;
 use gf::{Field, Gf16, Gf256, Refusal};
 
@@ -57,16 +58,11 @@ fn print_zero_block(rt: &HostRuntime) -> anyhow::Result<()> {
     let fire = fire_word(&block[2..11]);
     println!(rt; "zero block: Fire word {fire:04X}")?;
     print_parameters(rt, block[2])?;
-    let received = Received::new(1).map_err(as_error)?;
-    let (repaired, repair) = received
-        .repair(&mut block)
-        .map_err(|refused| as_error(refused.refusal))?;
+    let (repaired, repair) = repair_block(1, &mut block).map_err(as_error)?;
     let repair = RepairText(repair);
     println!(rt; "zero block: {repair}")?;
-    match repaired.open(&block) {
-        Ok(_) => println!(rt; "zero block: opened")?,
-        Err(Refused { state: _, refusal }) => println!(rt; "zero block: {refusal}")?,
-    }
+    let opened = Answer::of(repaired.open(&block));
+    println!(rt; "zero block: {opened}")?;
     Ok(())
 }
 

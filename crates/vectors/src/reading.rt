@@ -1,5 +1,5 @@
 // Reading a block: received, repaired and opened, and what came out in the words of the texts.
-use block::{Header, Opened, Received};
+use block::{Header, Opened, Received, Repaired};
 use gf::Refusal;
 use interleaver::Repair;
 use std::alloc::{AllocError, Global};
@@ -11,12 +11,35 @@ pub struct Reading {
     pub opened: Opened,
 }
 
+// Receives and repairs a block.
+pub fn repair_block(size: usize, block: &mut [u8]) -> Result<(Repaired, Repair), Refusal> {
+    Ok(Received::new(size)?.repair(block)?)
+}
+
 // Receives, repairs and opens a block.
 pub fn read_block(size: usize, block: &mut [u8]) -> Result<Reading, Refusal> {
-    let received = Received::new(size)?;
-    let (repaired, repair) = received.repair(block).map_err(|refused| refused.refusal)?;
-    let opened = repaired.open(block).map_err(|refused| refused.refusal)?;
+    let (repaired, repair) = repair_block(size, block)?;
+    let opened = repaired.open(block)?;
     Ok(Reading { repair, opened })
+}
+
+// What the texts say of an open block.
+#[derive(Drop)]
+pub struct Words {
+    pub parameters: u8,
+    pub starts: String,
+    // A letter for each unit.
+    pub units: String,
+}
+
+impl Reading {
+    pub fn words(&self, heap: Global, block: &[u8]) -> Result<Words, AllocError> {
+        Ok(Words {
+            parameters: parameter_byte(block),
+            starts: starts_text(heap, &self.opened.header())?,
+            units: unit_letters(heap, &self.opened, block)?,
+        })
+    }
 }
 
 // The starts in brackets.

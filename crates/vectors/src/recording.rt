@@ -11,18 +11,22 @@ pub struct Recording {
     text: String,
 }
 
+// The size in a text, which has a line such as `s 8`.
+fn size_in(text: &str) -> anyhow::Result<usize> {
+    let size = text
+        .lines()
+        .find_map(|line| line.strip_prefix("s "))
+        .context("a text without its size")?;
+    Ok(size.parse()?)
+}
+
 impl Recording {
-    // Reads `NAME.dabp`, and `NAME.txt` beside it, which has the size in a line such as `s 8`.
+    // Reads `NAME.dabp`, and `NAME.txt` beside it, which has the size.
     pub fn read(rt: &HostRuntime, name: &str) -> anyhow::Result<Recording> {
         let heap = rt.alloc();
         let bytes = fs::read(rt, format!(in heap; "{name}.dabp")?.as_str())?;
         let text = fs::read_to_string(rt, format!(in heap; "{name}.txt")?.as_str())?;
-        let size = text
-            .as_str()
-            .lines()
-            .find_map(|line| line.strip_prefix("s "))
-            .context("a text without its size")?
-            .parse::<usize>()?;
+        let size = size_in(&text)?;
         Ok(Recording { size, bytes, text })
     }
 

@@ -1,5 +1,5 @@
 // Recordings of super frames, each compared with the text that describes it.
-use crate::reading::{parameter_byte, read_block, starts_text, unit_letters};
+use crate::reading::{Words, read_block};
 use crate::recording::Recording;
 use std::alloc::{AllocError, Global};
 
@@ -18,11 +18,13 @@ fn description(heap: Global, size: usize, block: &[u8]) -> Result<String, AllocE
         Err(refusal) => format!(in heap; "{refusal}"),
         Ok(reading) => {
             let left = reading.repair.rows_left;
-            let parameters = parameter_byte(&block);
-            let starts = starts_text(heap, &reading.opened.header())?;
-            let letters = unit_letters(heap, &reading.opened, &block)?;
+            let Words {
+                parameters,
+                starts,
+                units,
+            } = reading.words(heap, &block)?;
             format!(in heap;
-                "bad_rows {left} fire True param {parameters:02x} align True starts {starts} crc {letters} "
+                "bad_rows {left} fire True param {parameters:02x} align True starts {starts} crc {units} "
             )
         }
     }

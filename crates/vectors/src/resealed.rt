@@ -49,7 +49,7 @@ fn seal_by_unit(parts: &Parts<'_>, block: &mut [u8]) -> Result<SealedWriter, Ref
     for unit in &parts.units {
         writer.add(block, unit)?;
     }
-    writer.seal(block).map_err(|refused| refused.refusal)
+    Ok(writer.seal(block)?)
 }
 
 // The five frames, one behind another.
@@ -61,28 +61,57 @@ fn frames(heap: Global, sealed: &SealedWriter, block: &[u8]) -> anyhow::Result<V
     Ok(frames)
 }
 
+// A super frame that was made again.
+#[derive(Drop)]
+struct Remade {
+    // Its bytes where it was made by one call, and its five frames.
+    bytes: Vec<u8>,
+    frames: Vec<u8>,
+    // Its bytes where it was made unit by unit.
+    by_unit: Vec<u8>,
+}
+
+impl Remade {
+    fn of(heap: Global, parts: &Parts<'_>, length: usize) -> anyhow::Result<Remade> {
+        let mut bytes = vec![in heap; 0x5au8; length]?;
+        let sealed = make_super_frame(parts.settings, &parts.units, &mut bytes).map_err(as_error)?;
+        let frames = frames(heap, &sealed, &bytes)?;
+        let mut by_unit = vec![in heap; 0xa5u8; length]?;
+        seal_by_unit(parts, &mut by_unit).map_err(as_error)?;
+        Ok(Remade {
+            bytes,
+            frames,
+            by_unit,
+        })
+    }
+}
+
+// Takes a super frame apart, and makes it again.
+fn remake(heap: Global, size: usize, recorded: &[u8]) -> anyhow::Result<Remade> {
+    let mut lent = recorded.to_vec(heap)?;
+    let opened = open_flawless(size, &mut lent)?;
+    let parts = parts_of(heap, &opened, &lent)?;
+    Remade::of(heap, &parts, recorded.len())
+}
+
 impl Tally {
-    // Takes a super frame apart, makes it again, and counts what came out.
-    fn count(&mut self, heap: Global, size: usize, recorded: &[u8]) -> anyhow::Result<()> {
-        let mut lent = recorded.to_vec(heap)?;
-        let opened = open_flawless(size, &mut lent)?;
-        let parts = parts_of(heap, &opened, &lent)?;
-        let mut made = vec![in heap; 0x5au8; recorded.len()]?;
-        let sealed = make_super_frame(parts.settings, &parts.units, &mut made).map_err(as_error)?;
-        let mut by_unit = vec![in heap; 0xa5u8; recorded.len()]?;
-        seal_by_unit(&parts, &mut by_unit).map_err(as_error)?;
-        let handed_out = frames(heap, &sealed, &made)?;
+    // Counts a super frame that was made again.
+    fn count(&mut self, recorded: &[u8], remade: &Remade) {
+        let Remade {
+            bytes,
+            frames,
+            by_unit,
+        } = remade;
         self.sealed = self.sealed.saturating_add(1);
         self.same_bytes = self
             .same_bytes
-            .saturating_add(usize::from(made.as_slice() == recorded));
+            .saturating_add(usize::from(bytes.as_slice() == recorded));
         self.same_frames = self
             .same_frames
-            .saturating_add(usize::from(handed_out.as_slice() == recorded));
+            .saturating_add(usize::from(frames.as_slice() == recorded));
         self.same_by_unit = self
             .same_by_unit
             .saturating_add(usize::from(by_unit.as_slice() == recorded));
-        Ok(())
     }
 }
 
@@ -91,7 +120,7 @@ fn compare(rt: &HostRuntime, name: &str) -> anyhow::Result<()> {
     let mut tally = Tally::default();
     for n in 0..recording.blocks() {
         let block = recording.block(n).unwrap_or_default();
-        tally.count(rt.alloc(), recording.size, block)?;
+        tally.count(block, &remake(rt.alloc(), recording.size, block)?);
     }
     let Tally {
         sealed,

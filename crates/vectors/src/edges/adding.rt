@@ -1,9 +1,9 @@
 // Adding units of lengths that just fit or just do not, too many units and too few, and sealing.
-use super::draft::{Draft, TWO_UNITS, sealed_block, unit_of};
-use crate::answer::{Answer, Trial, as_error};
-use crate::reading::{read_block, starts_text, unit_letters};
-use block::{DacRate, Parameters, Settings, make_super_frame};
-use std::alloc::Global;
+use super::draft::{Draft, TWO_UNITS, sealed_block, try_make};
+use crate::answer::{Trial, as_error};
+use crate::reading::{Words, read_block};
+use block::{DacRate, Parameters};
+use std::alloc::{AllocError, Global};
 
 // The longest first unit that leaves room for the others, each of which has a byte and its check.
 #[derive(Clone, Copy)]
@@ -57,22 +57,26 @@ fn print_first_units(rt: &HostRuntime) -> anyhow::Result<()> {
     Ok(())
 }
 
-// A super frame of two units with these in it.
-fn draft(heap: Global, size: usize, lengths: &[usize]) -> anyhow::Result<Draft> {
-    let mut draft = Draft::new(heap, size, TWO_UNITS)?;
-    draft.add_all(lengths)?;
-    Ok(draft)
+// Tries to add a unit behind units of these lengths, with a buffer of so many bytes.
+fn try_behind(
+    heap: Global,
+    size: usize,
+    lengths: &[usize],
+    buffer: usize,
+    length: usize,
+) -> anyhow::Result<Trial> {
+    Ok(Draft::begun(heap, size, lengths, buffer)?.try_add(length)?)
 }
 
 // The last unit has to fill what is left.
 fn print_last_units(rt: &HostRuntime) -> anyhow::Result<()> {
-    for (size, first, lengths) in [
-        (1, 100, [0, 1, 2]),
-        (1, 50, [50, 51, 52]),
-        (24, 2000, [630, 631, 632]),
+    for (size, buffer, first, lengths) in [
+        (1, 120, 100, [0, 1, 2]),
+        (1, 120, 50, [50, 51, 52]),
+        (24, 2880, 2000, [630, 631, 632]),
     ] {
         for length in lengths {
-            let trial = draft(rt.alloc(), size, &[first])?.try_add(length)?;
+            let trial = try_behind(rt.alloc(), size, &[first], buffer, length)?;
             println!(rt; "size {size}, last unit of {length} bytes behind {first}: {trial}")?;
         }
     }
@@ -83,15 +87,11 @@ fn print_last_units(rt: &HostRuntime) -> anyhow::Result<()> {
 fn print_third_units(rt: &HostRuntime) -> anyhow::Result<()> {
     for buffer in [120, 119, 121] {
         for length in [0, 1, 101] {
-            let mut draft = draft(rt.alloc(), 1, &[100, 1])?;
-            draft.buffer.resize(buffer, 0)?;
-            let trial = draft.try_add(length)?;
+            let trial = try_behind(rt.alloc(), 1, &[100, 1], buffer, length)?;
             println!(rt; "buffer of {buffer} bytes, third unit of {length} bytes: {trial}")?;
         }
     }
-    let mut draft = draft(rt.alloc(), 1, &[])?;
-    draft.buffer.resize(119, 0)?;
-    let trial = draft.try_add(0)?;
+    let trial = try_behind(rt.alloc(), 1, &[], 119, 0)?;
     println!(rt; "buffer of 119 bytes, first unit of 0 bytes: {trial}")?;
     Ok(())
 }
@@ -101,9 +101,7 @@ fn print_seals(rt: &HostRuntime) -> anyhow::Result<()> {
     for buffer in [120, 119] {
         let lengths: [&[usize]; 3] = [&[], &[100], &[100, 1]];
         for lengths in lengths {
-            let mut draft = draft(rt.alloc(), 1, lengths)?;
-            draft.buffer.resize(buffer, 0)?;
-            let trial = draft.try_seal()?;
+            let trial = Draft::begun(rt.alloc(), 1, lengths, buffer)?.try_seal()?;
             println!(rt;
                 "buffer of {buffer} bytes, sealing with units of {lengths:?} bytes: {trial}"
             )?;
@@ -112,98 +110,92 @@ fn print_seals(rt: &HostRuntime) -> anyhow::Result<()> {
     Ok(())
 }
 
-// Tries to make a super frame of size 1 with units of these lengths, in a buffer of so many bytes.
-fn try_make(heap: Global, lengths: &[usize], length: usize) -> anyhow::Result<Trial> {
-    let settings = Settings::new(1, TWO_UNITS).map_err(as_error)?;
-    let mut units = Vec::new(heap);
-    for length in lengths {
-        units.push(unit_of(heap, *length)?)?;
+// The buffer comes before too many units, these before a length, and a length before what is missing.
+fn print_made_at_once(rt: &HostRuntime) -> anyhow::Result<()> {
+    let cases: [(usize, &[usize]); 15] = [
+        (120, &[]),
+        (120, &[0]),
+        (120, &[100]),
+        (120, &[101]),
+        (120, &[100, 0]),
+        (120, &[100, 1]),
+        (120, &[100, 2]),
+        (120, &[0, 103]),
+        (120, &[1, 100]),
+        (120, &[101, 0]),
+        (120, &[0, 0, 0]),
+        (120, &[100, 1, 1]),
+        (119, &[]),
+        (119, &[0]),
+        (121, &[0, 0, 0]),
+    ];
+    for (buffer, lengths) in cases {
+        let trial = try_make(rt.alloc(), 1, lengths, buffer)?;
+        println!(rt;
+            "buffer of {buffer} bytes, made at once of units of {lengths:?} bytes: {trial}"
+        )?;
     }
-    let lent: Vec<&[u8]> = units.iter().map(|unit| unit.as_slice()).collect(heap)?;
-    let mut buffer = vec![in heap; 0xa5u8; length]?;
-    let before = buffer.clone()?;
-    let answer = Answer::of(make_super_frame(settings, &lent, &mut buffer));
-    Ok(Trial::new(answer, buffer == before))
-}
-
-fn print_made(rt: &HostRuntime, buffer: usize, lengths: &[usize]) -> anyhow::Result<()> {
-    let trial = try_make(rt.alloc(), lengths, buffer)?;
-    println!(rt; "buffer of {buffer} bytes, made at once of units of {lengths:?} bytes: {trial}")?;
     Ok(())
 }
 
-// The buffer comes before too many units, these before a length, and a length before what is missing.
-fn print_made_at_once(rt: &HostRuntime) -> anyhow::Result<()> {
-    let cases: [&[usize]; 12] = [
-        &[],
-        &[0],
-        &[100],
-        &[101],
-        &[100, 0],
-        &[100, 1],
-        &[100, 2],
-        &[0, 103],
-        &[1, 100],
-        &[101, 0],
-        &[0, 0, 0],
-        &[100, 1, 1],
-    ];
-    for lengths in cases {
-        print_made(rt, 120, lengths)?;
+// Tries lengths that are refused, one after the other, and then adds units that fit.
+fn print_tries(
+    rt: &HostRuntime,
+    draft: &mut Draft,
+    unit: &str,
+    refused: &[usize],
+    fitting: &[usize],
+) -> anyhow::Result<()> {
+    for length in refused {
+        let trial = draft.try_add(*length)?;
+        println!(rt; "between, {unit} unit of {length} bytes: {trial}")?;
     }
-    print_made(rt, 119, &[])?;
-    print_made(rt, 119, &[0])?;
-    print_made(rt, 121, &[0, 0, 0])
+    draft.add_all(fitting)
 }
 
 // A writer that is refused again and again goes on as if it had not been.
 fn print_refused_between(rt: &HostRuntime) -> anyhow::Result<()> {
-    let heap = rt.alloc();
-    let mut draft = Draft::new(heap, 1, TWO_UNITS)?;
-    for length in [0, 101] {
-        let trial = draft.try_add(length)?;
-        println!(rt; "between, first unit of {length} bytes: {trial}")?;
-    }
-    draft.add_all(&[100])?;
-    for length in [0, 2] {
-        let trial = draft.try_add(length)?;
-        println!(rt; "between, last unit of {length} bytes: {trial}")?;
-    }
-    draft.add_all(&[1])?;
-    let trial = draft.try_add(1)?;
-    println!(rt; "between, third unit of 1 bytes: {trial}")?;
-    let (_, block) = draft.seal()?;
-    let same = block == sealed_block(heap, 1, TWO_UNITS, &[100, 1])?;
+    let mut draft = Draft::new(rt.alloc(), 1, TWO_UNITS)?;
+    print_tries(rt, &mut draft, "first", &[0, 101], &[100])?;
+    print_tries(rt, &mut draft, "last", &[0, 2], &[1])?;
+    print_tries(rt, &mut draft, "third", &[1], &[])?;
+    let (_, block) = draft.seal().map_err(as_error)?;
+    let same = block == sealed_block(rt.alloc(), 1, TWO_UNITS, &[100, 1])?;
     println!(rt; "sealed after refusals, the same bytes: {same}")?;
     Ok(())
+}
+
+// Bytes in hexadecimal, each behind a blank.
+fn hexadecimal(heap: Global, bytes: &[u8]) -> Result<String, AllocError> {
+    let mut text = String::new(heap);
+    for byte in bytes {
+        write!(text, " {byte:02X}")?;
+    }
+    Ok(text)
 }
 
 // A start of 107 is 06B in hexadecimal, and four zero bits fill the second byte.
 fn print_packed(rt: &HostRuntime, block: &mut [u8]) -> anyhow::Result<()> {
     let heap = rt.alloc();
-    print!(rt; "size 1, units of 100 and 1 bytes: packed")?;
-    for byte in block.get(3..5).unwrap_or_default() {
-        print!(rt; " {byte:02X}")?;
-    }
+    let packed = hexadecimal(heap, block.get(3..5).unwrap_or_default())?;
     let reading = read_block(1, block).map_err(as_error)?;
-    let starts = starts_text(heap, &reading.opened.header())?;
-    let letters = unit_letters(heap, &reading.opened, block)?;
     let changed = reading.repair.changed;
-    println!(rt; ", {changed} changed, starts {starts}, units {letters}")?;
+    let Words { starts, units, .. } = reading.words(heap, block)?;
+    println!(rt;
+        "size 1, units of 100 and 1 bytes: packed{packed}, {changed} changed, starts {starts}, units {units}"
+    )?;
     Ok(())
 }
 
 // Every byte of the smallest super frame, in its five frames.
 fn print_smallest(rt: &HostRuntime) -> anyhow::Result<()> {
-    let draft = draft(rt.alloc(), 1, &[100, 1])?;
-    let (sealed, mut block) = draft.seal()?;
+    let heap = rt.alloc();
+    let draft = Draft::begun(heap, 1, &[100, 1], 120)?;
+    let (sealed, mut block) = draft.seal().map_err(as_error)?;
     print_packed(rt, &mut block)?;
     for n in 0..5 {
-        print!(rt; "  frame {n}:")?;
-        for byte in sealed.frame(&block, n).map_err(as_error)? {
-            print!(rt; " {byte:02X}")?;
-        }
-        println!(rt)?;
+        let frame = hexadecimal(heap, sealed.frame(&block, n).map_err(as_error)?)?;
+        println!(rt; "  frame {n}:{frame}")?;
     }
     Ok(())
 }

@@ -1,8 +1,8 @@
 // Buffers of the right length, and of wrong ones, at every call that is lent one.
-use super::draft::{Draft, TWO_UNITS, sealed_block, unit_of};
+use super::draft::{Draft, TWO_UNITS, sealed_block, try_make};
 use crate::answer::{Answer, Trial, as_error};
-use crate::reading::read_block;
-use block::{Received, Settings, make_super_frame};
+use crate::reading::{read_block, repair_block};
+use block::Received;
 use std::alloc::Global;
 use std::fmt;
 
@@ -82,21 +82,10 @@ impl Sample {
         Ok(buffer)
     }
 
-    // A super frame with so many of the units in it.
-    fn draft(&self, units: usize) -> anyhow::Result<Draft> {
-        let mut draft = Draft::new(self.heap, self.case.size, TWO_UNITS)?;
-        draft.add_all(self.case.units.get(..units).unwrap_or_default())?;
-        Ok(draft)
-    }
-
-    fn received(&self) -> anyhow::Result<Received> {
-        Received::new(self.case.size).map_err(as_error)
-    }
-
     fn try_repair(&self, length: usize) -> anyhow::Result<Trial> {
         let mut buffer = self.buffer(length)?;
         let before = buffer.clone()?;
-        let received = self.received()?;
+        let received = Received::new(self.case.size).map_err(as_error)?;
         let text = format!(in self.heap; "{received:?}")?;
         let trial = Trial::of_state(self.heap, text.as_str(), received.repair(&mut buffer))?;
         Ok(trial.and(buffer == before))
@@ -104,10 +93,9 @@ impl Sample {
 
     fn try_open(&self, length: usize) -> anyhow::Result<Trial> {
         let buffer = self.buffer(length)?;
-        let (repaired, _) = self
-            .received()?
-            .repair(&mut self.block.clone()?)
-            .map_err(|refused| as_error(refused.refusal))?;
+        let (repaired, _) = repair_block(self.case.size, &mut self.block.clone()?).map_err(
+            as_error,
+        )?;
         let text = format!(in self.heap; "{repaired:?}")?;
         Ok(Trial::of_state(self.heap, text.as_str(), repaired.open(&buffer))?)
     }
@@ -119,33 +107,23 @@ impl Sample {
     }
 
     fn try_add(&self, length: usize) -> anyhow::Result<Trial> {
-        let mut draft = self.draft(0)?;
-        draft.buffer.resize(length, 0)?;
-        Ok(draft.try_add(1)?)
+        Ok(Draft::begun(self.heap, self.case.size, &[], length)?.try_add(1)?)
     }
 
     fn try_seal(&self, length: usize) -> anyhow::Result<Trial> {
-        let mut draft = self.draft(2)?;
-        draft.buffer.resize(length, 0)?;
-        Ok(draft.try_seal()?)
+        Ok(Draft::begun(self.heap, self.case.size, &self.case.units, length)?.try_seal()?)
     }
 
     fn try_frame(&self, length: usize) -> anyhow::Result<Trial> {
         let buffer = self.buffer(length)?;
-        let (sealed, _) = self.draft(2)?.seal()?;
+        let draft = Draft::begun(
+            self.heap,
+            self.case.size,
+            &self.case.units,
+            self.block.len(),
+        )?;
+        let (sealed, _) = draft.seal().map_err(as_error)?;
         Ok(Trial::new(Answer::of(sealed.frame(&buffer, 0)), true))
-    }
-
-    fn try_make(&self, length: usize) -> anyhow::Result<Trial> {
-        let mut buffer = self.buffer(length)?;
-        let before = buffer.clone()?;
-        let settings = Settings::new(self.case.size, TWO_UNITS).map_err(as_error)?;
-        let [first, last] = self.case.units;
-        let first = unit_of(self.heap, first)?;
-        let last = unit_of(self.heap, last)?;
-        let units = [first.as_slice(), last.as_slice()];
-        let answer = Answer::of(make_super_frame(settings, &units, &mut buffer));
-        Ok(Trial::new(answer, buffer == before))
     }
 
     // Tries a call with a buffer of so many bytes.
@@ -157,7 +135,12 @@ impl Sample {
             Call::Add => self.try_add(length),
             Call::Seal => self.try_seal(length),
             Call::Frame => self.try_frame(length),
-            Call::MakeSuperFrame => self.try_make(length),
+            Call::MakeSuperFrame => Ok(try_make(
+                self.heap,
+                self.case.size,
+                &self.case.units,
+                length,
+            )?),
         }
     }
 

@@ -1,6 +1,7 @@
 // Blocks of several layouts, filled, damaged in some rows, and repaired.
 use super::layouts::Shape;
 use crate::answer::{RepairText, as_error};
+use gf::Refusal;
 use std::alloc::{AllocError, Global};
 
 // A layout, and the rows that are damaged, each with how many of its bytes are wrong.
@@ -21,61 +22,63 @@ impl Case {
         Ok(block)
     }
 
-    // The block with the damage: wrong bytes in every twentieth column from the last one down.
-    fn damaged(&self, heap: Global, filled: &[u8]) -> Result<Vec<u8>, AllocError> {
+    // Makes so many bytes of a row wrong, in every twentieth column from the last one down.
+    fn spoil(&self, block: &mut [u8], row: usize, wrong: usize) {
         let Shape { rows, symbols, .. } = self.shape;
+        for column in (0..symbols).rev().step_by(20).take(wrong) {
+            let place = rows.saturating_mul(column).saturating_add(row);
+            if let Some(byte) = block.get_mut(place) {
+                *byte ^= 0x5a;
+            }
+        }
+    }
+
+    // The filled block with the damage of the rows in which more than so many bytes are wrong.
+    fn damaged(&self, heap: Global, filled: &[u8], few: usize) -> Result<Vec<u8>, AllocError> {
         let mut block = filled.to_vec(heap)?;
         for (row, wrong) in self.damage {
-            for column in (0..symbols).rev().step_by(20).take(*wrong) {
-                let place = rows.saturating_mul(column).saturating_add(*row);
-                if let Some(byte) = block.get_mut(place) {
-                    *byte ^= 0x5a;
-                }
+            if *wrong > few {
+                self.spoil(&mut block, *row, *wrong);
             }
         }
         Ok(block)
     }
 
-    // Whether more bytes of the row are wrong than half of its checks.
-    fn is_left(&self, row: usize) -> bool {
-        self.damage.iter().any(|(damaged, wrong)| *damaged == row && *wrong > self.shape.checks / 2)
+    fn repair(&self, block: &mut [u8]) -> Result<RepairText, Refusal> {
+        Ok(RepairText(self.shape.layout()?.repair(block)?))
     }
 
-    // Whether the rows that are left are as they were damaged, and the others as they were filled.
-    fn is_as_meant(&self, filled: &[u8], damaged: &[u8], repaired: &[u8]) -> bool {
-        filled.iter().zip(damaged).zip(repaired).enumerate().all(|(
-            place,
-            ((filled, damaged), repaired),
-        )| {
-            let row = place.checked_rem(self.shape.rows).unwrap_or(0);
-            let meant = if self.is_left(row) { damaged } else { filled };
-            repaired == meant
-        })
+    fn print_filled(&self, rt: &HostRuntime, filled: &[u8]) -> anyhow::Result<()> {
+        let repaired = self
+            .repair(&mut filled.to_vec(rt.alloc())?)
+            .map_err(as_error)?;
+        println!(rt; "  filled: {repaired}")?;
+        for (row, wrong) in self.damage {
+            println!(rt; "  row {row}: {wrong} bytes wrong")?;
+        }
+        Ok(())
+    }
+
+    // Of the damage that of the rows is left in which more bytes are wrong than half of the checks.
+    fn print_damaged(&self, rt: &HostRuntime, filled: &[u8]) -> anyhow::Result<()> {
+        let mut block = self.damaged(rt.alloc(), filled, 0)?;
+        let repaired = self.repair(&mut block).map_err(as_error)?;
+        println!(rt; "  damaged: {repaired}")?;
+        let as_meant = block == self.damaged(rt.alloc(), filled, self.shape.checks / 2)?;
+        println!(rt; "  rows left as they were damaged, the others as filled: {as_meant}")?;
+        Ok(())
     }
 
     fn print(&self, rt: &HostRuntime) -> anyhow::Result<()> {
-        let heap = rt.alloc();
         let Shape {
             rows,
             symbols,
             checks,
         } = self.shape;
-        let layout = self.shape.layout().map_err(as_error)?;
         println!(rt; "{rows} rows of {symbols} with {checks} checks")?;
-        let filled = self.filled(heap)?;
-        let mut block = filled.clone()?;
-        let repaired = RepairText(layout.repair(&mut block).map_err(as_error)?);
-        println!(rt; "  filled: {repaired}")?;
-        for (row, wrong) in self.damage {
-            println!(rt; "  row {row}: {wrong} bytes wrong")?;
-        }
-        let damaged = self.damaged(heap, &filled)?;
-        let mut block = damaged.clone()?;
-        let repaired = RepairText(layout.repair(&mut block).map_err(as_error)?);
-        println!(rt; "  damaged: {repaired}")?;
-        let as_meant = self.is_as_meant(&filled, &damaged, &block);
-        println!(rt; "  rows left as they were damaged, the others as filled: {as_meant}")?;
-        Ok(())
+        let filled = self.filled(rt.alloc())?;
+        self.print_filled(rt, &filled)?;
+        self.print_damaged(rt, &filled)
     }
 }
 

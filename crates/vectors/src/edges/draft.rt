@@ -1,6 +1,9 @@
 // A super frame that is being written, with its buffer.
 use crate::answer::{Answer, Trial, as_error};
-use block::{ChannelMode, DacRate, OpenWriter, Parameters, SealedWriter, Settings};
+use block::{
+    ChannelMode, DacRate, OpenWriter, Parameters, SealedWriter, Settings, make_super_frame,
+};
+use gf::Refusal;
 use std::alloc::{AllocError, Global};
 
 // 32 kHz, sbr, mono: two units.
@@ -35,6 +38,19 @@ impl Draft {
         })
     }
 
+    // A super frame of two units with units of these lengths in it, and its buffer cut or made longer to so many bytes.
+    pub fn begun(
+        heap: Global,
+        size: usize,
+        lengths: &[usize],
+        buffer: usize,
+    ) -> anyhow::Result<Draft> {
+        let mut draft = Draft::new(heap, size, TWO_UNITS)?;
+        draft.add_all(lengths)?;
+        draft.buffer.resize(buffer, 0)?;
+        Ok(draft)
+    }
+
     // Adds units of these lengths.
     pub fn add_all(&mut self, lengths: &[usize]) -> anyhow::Result<()> {
         for length in lengths {
@@ -44,17 +60,19 @@ impl Draft {
         Ok(())
     }
 
+    // The writer and the bytes of its buffer, written out.
+    fn text(&self) -> Result<String, AllocError> {
+        let Draft { writer, buffer, .. } = self;
+        format!(in self.heap; "{writer:?} {buffer:?}")
+    }
+
     // Tries to add a unit of this length.
     pub fn try_add(&mut self, length: usize) -> Result<Trial, AllocError> {
         let unit = unit_of(self.heap, length)?;
-        let writer = &mut self.writer;
-        let before = format!(in self.heap; "{writer:?}")?;
-        let buffer = self.buffer.clone()?;
-        let answer = Answer::of(writer.add(&mut self.buffer, &unit));
-        let after = format!(in self.heap; "{writer:?}")?;
-        let writer_unchanged = after.as_str() == before.as_str();
-        let buffer_unchanged = self.buffer == buffer;
-        Ok(Trial::new(answer, writer_unchanged && buffer_unchanged))
+        let before = self.text()?;
+        let answer = Answer::of(self.writer.add(&mut self.buffer, &unit));
+        let after = self.text()?;
+        Ok(Trial::new(answer, after.as_str() == before.as_str()))
     }
 
     // Tries to seal.
@@ -71,15 +89,13 @@ impl Draft {
     }
 
     // Seals, and hands out the block with its writer.
-    pub fn seal(self) -> anyhow::Result<(SealedWriter, Vec<u8>)> {
+    pub fn seal(self) -> Result<(SealedWriter, Vec<u8>), Refusal> {
         let Draft {
-            heap: _,
             writer,
             mut buffer,
+            ..
         } = self;
-        let sealed = writer
-            .seal(&mut buffer)
-            .map_err(|refused| as_error(refused.refusal))?;
+        let sealed = writer.seal(&mut buffer)?;
         Ok((sealed, buffer))
     }
 }
@@ -93,6 +109,35 @@ pub fn sealed_block(
 ) -> anyhow::Result<Vec<u8>> {
     let mut draft = Draft::new(heap, size, parameters)?;
     draft.add_all(lengths)?;
-    let (_, block) = draft.seal()?;
+    let (_, block) = draft.seal().map_err(as_error)?;
     Ok(block)
+}
+
+// Units of these lengths.
+fn units_of(heap: Global, lengths: &[usize]) -> Result<Vec<Vec<u8>>, AllocError> {
+    let mut units = Vec::new(heap);
+    for length in lengths {
+        units.push(unit_of(heap, *length)?)?;
+    }
+    Ok(units)
+}
+
+// Makes a super frame with the settings of two units, by one call.
+fn make(size: usize, units: &[&[u8]], buffer: &mut [u8]) -> Result<SealedWriter, Refusal> {
+    make_super_frame(Settings::new(size, TWO_UNITS)?, units, buffer)
+}
+
+// Tries to make a super frame of units of these lengths, in a buffer of so many bytes.
+pub fn try_make(
+    heap: Global,
+    size: usize,
+    lengths: &[usize],
+    buffer: usize,
+) -> Result<Trial, AllocError> {
+    let units = units_of(heap, lengths)?;
+    let lent: Vec<&[u8]> = units.iter().map(|unit| unit.as_slice()).collect(heap)?;
+    let mut buffer = vec![in heap; 0xa5u8; buffer]?;
+    let before = buffer.clone()?;
+    let answer = Answer::of(make(size, &lent, &mut buffer));
+    Ok(Trial::new(answer, buffer == before))
 }

@@ -1,5 +1,5 @@
 // Layouts of rows that are admitted and that are not, and blocks that are not of their length.
-use crate::answer::{Answer, Trial};
+use crate::answer::{Answer, Trial, as_error};
 use gf::Refusal;
 use interleaver::RowLayout;
 use std::alloc::Global;
@@ -92,10 +92,7 @@ fn try_fill(heap: Global, layout: &RowLayout, length: usize) -> anyhow::Result<T
 // A layout, and lengths of blocks: none, one byte short, right, one byte long.
 fn print_blocks(rt: &HostRuntime, shape: Shape, lengths: [usize; 4]) -> anyhow::Result<()> {
     let Shape { rows, symbols, .. } = shape;
-    let Ok(layout) = shape.layout() else {
-        println!(rt; "{rows} rows of {symbols}: no layout")?;
-        return Ok(());
-    };
+    let layout = shape.layout().map_err(as_error)?;
     for length in lengths {
         let repair = try_repair(rt.alloc(), &layout, length)?;
         println!(rt; "{rows} rows of {symbols}, repair, block of {length} bytes: {repair}")?;

@@ -85,29 +85,28 @@ fn print_wrong_unit(rt: &HostRuntime) -> anyhow::Result<()> {
     if let Some(byte) = block.get_mut(107) {
         *byte ^= 1;
     }
-    for n in [0, 1, 2] {
-        let answer = Answer::of(opened.unit(&block, n));
-        println!(rt; "byte 107 wrong, unit {n}: {answer}")?;
-    }
-    let _ = block.pop();
-    for n in [0, 1, 2] {
-        let answer = Answer::of(opened.unit(&block, n));
-        println!(rt; "byte 107 wrong, buffer of 119 bytes, unit {n}: {answer}")?;
+    for (length, buffer) in [(120, ""), (119, ", buffer of 119 bytes")] {
+        for n in [0, 1, 2] {
+            let answer = Answer::of(opened.unit(block.get(..length).unwrap_or_default(), n));
+            println!(rt; "byte 107 wrong{buffer}, unit {n}: {answer}")?;
+        }
     }
     Ok(())
 }
 
 fn print_frames(rt: &HostRuntime) -> anyhow::Result<()> {
-    let mut draft = Draft::new(rt.alloc(), 1, TWO_UNITS)?;
-    draft.add_all(&[100, 1])?;
-    let (sealed, mut block) = draft.seal()?;
-    for n in [0, 4, 5, usize::MAX] {
-        let answer = Answer::of(sealed.frame(&block, n));
-        println!(rt; "frame {n}: {answer}")?;
+    let draft = Draft::begun(rt.alloc(), 1, &[100, 1], 120)?;
+    let (sealed, block) = draft.seal().map_err(as_error)?;
+    for (n, length, buffer) in [
+        (0, 120, ""),
+        (4, 120, ""),
+        (5, 120, ""),
+        (usize::MAX, 120, ""),
+        (5, 119, ", buffer of 119 bytes"),
+    ] {
+        let answer = Answer::of(sealed.frame(block.get(..length).unwrap_or_default(), n));
+        println!(rt; "frame {n}{buffer}: {answer}")?;
     }
-    let _ = block.pop();
-    let answer = Answer::of(sealed.frame(&block, 5));
-    println!(rt; "frame 5, buffer of 119 bytes: {answer}")?;
     Ok(())
 }
 

@@ -1,7 +1,8 @@
 // Receivers over a recording, a queue, and a queue made where its check refuses; what patience, resets and foreign frames do.
-use super::{Mode, Pulled, Receiver, Report, UnitState};
+use crate::expectation::expect;
 use block::{ChannelMode, DacRate, Parameters, Settings, make_super_frame};
 use gf::Refusal;
+use reception::{Mode, Pulled, Receiver, Report, UnitState};
 use sources::{FrameQueue, Recording};
 
 // A super frame of size 1 with two units.
@@ -57,11 +58,12 @@ fn after_a_foreign_frame_it_is_back(rt: HostRuntime) {
         let mut places = [0; 768];
         let mut buffer = [0; 120];
         let mut receiver = Receiver::new(1, FrameQueue::new(1, &mut places));
-        assert_eq!(rt; receiver.patience(patience), Ok(()));
+        expect(&rt, receiver.patience(patience), Ok(()));
         assert!(rt; lock(&mut receiver, &block, &mut buffer), "it locks");
-        assert_eq!(rt;
+        expect(
+            &rt,
             receive(&mut receiver, &[0x55; 24], &mut buffer),
-            Ok(Pulled::Held)
+            Ok(Pulled::Held),
         );
         // Misread at frames 4, 9, 14 and so on, and the next frame after the last of them is delivered.
         for number in 1..5 * patience + 1 {
@@ -78,7 +80,7 @@ fn after_a_foreign_frame_it_is_back(rt: HostRuntime) {
                 "patience {patience}, frame {number}"
             );
         }
-        assert_eq!(rt; buffer, block);
+        expect(&rt, buffer, block);
     }
 }
 
@@ -88,7 +90,7 @@ fn patience_is_lowered_below_the_misses(rt: HostRuntime) {
     let mut places = [0; 768];
     let mut buffer = [0; 120];
     let mut receiver = Receiver::new(1, FrameQueue::new(1, &mut places));
-    assert_eq!(rt; receiver.patience(16), Ok(()));
+    expect(&rt, receiver.patience(16), Ok(()));
     assert!(rt; lock(&mut receiver, &block, &mut buffer), "it locks");
     for number in 0..15 {
         if number == 10 {
@@ -98,10 +100,10 @@ fn patience_is_lowered_below_the_misses(rt: HostRuntime) {
                 misses: 2,
                 patience: 16,
             };
-            assert_eq!(rt; receiver.report(), two);
-            assert_eq!(rt; receiver.patience(0), Err(Refusal::Patience));
-            assert_eq!(rt; receiver.patience(17), Err(Refusal::Patience));
-            assert_eq!(rt; receiver.patience(1), Ok(()));
+            expect(&rt, receiver.report(), two);
+            expect(&rt, receiver.patience(0), Err(Refusal::Patience));
+            expect(&rt, receiver.patience(17), Err(Refusal::Patience));
+            expect(&rt, receiver.patience(1), Ok(()));
         }
         let answer = receive(&mut receiver, &[0x55; 24], &mut buffer);
         assert_eq!(rt; is_missed(answer), number % 5 == 4, "frame {number}");
@@ -112,10 +114,10 @@ fn patience_is_lowered_below_the_misses(rt: HostRuntime) {
         misses: 0,
         patience: 1,
     };
-    assert_eq!(rt; receiver.report(), lost);
+    expect(&rt, receiver.report(), lost);
     assert_eq!(rt; buffer, block, "the buffer is as the delivery left it");
     receiver.reset();
-    assert_eq!(rt; receiver.report(), Report { held: 0, ..lost });
+    expect(&rt, receiver.report(), Report { held: 0, ..lost });
 }
 
 #[test]
@@ -129,10 +131,10 @@ fn over_a_recording(rt: HostRuntime) {
     }
     let mut buffer = [7; 120];
     let source = Recording::new(1, &bytes).expect(&rt, "the size is right");
-    assert_eq!(rt; Receiver::check(1, &source), Ok(()));
-    assert_eq!(rt; Receiver::check(2, &source), Err(Refusal::FrameLength));
+    expect(&rt, Receiver::check(1, &source), Ok(()));
+    expect(&rt, Receiver::check(2, &source), Err(Refusal::FrameLength));
     let mut receiver = Receiver::new(1, source);
-    assert_eq!(rt; receiver.pull(&mut [0; 119]), Err(Refusal::Buffer));
+    expect(&rt, receiver.pull(&mut [0; 119]), Err(Refusal::Buffer));
     for number in 0..11 {
         match receiver.pull(&mut buffer) {
             Ok(Pulled::Delivered(delivery)) => {
@@ -142,9 +144,9 @@ fn over_a_recording(rt: HostRuntime) {
                     usize::from(number == 10),
                     "bytes changed"
                 );
-                assert_eq!(rt; delivery.units[1], Some(UnitState::Good));
-                assert_eq!(rt; delivery.units[2], None);
-                assert_eq!(rt; buffer, block);
+                expect(&rt, delivery.units[1], Some(UnitState::Good));
+                expect(&rt, delivery.units[2], None);
+                expect(&rt, buffer, block);
                 buffer.fill(7);
             }
             answer => {
@@ -153,20 +155,20 @@ fn over_a_recording(rt: HostRuntime) {
             }
         }
     }
-    assert_eq!(rt; receiver.pull(&mut buffer), Ok(Pulled::NothingWaiting));
-    assert_eq!(rt; receiver.offer(&[0; 24]), Err(Refusal::Full));
+    expect(&rt, receiver.pull(&mut buffer), Ok(Pulled::NothingWaiting));
+    expect(&rt, receiver.offer(&[0; 24]), Err(Refusal::Full));
 }
 
 #[test]
 fn made_where_the_check_refuses(rt: HostRuntime) {
     let mut places = [0; 767];
     let queue = FrameQueue::new(1, &mut places);
-    assert_eq!(rt; Receiver::check(1, &queue), Err(Refusal::FrameLength));
-    assert_eq!(rt; Receiver::check(0, &queue), Err(Refusal::Size));
+    expect(&rt, Receiver::check(1, &queue), Err(Refusal::FrameLength));
+    expect(&rt, Receiver::check(0, &queue), Err(Refusal::Size));
     let mut receiver = Receiver::new(1, queue);
-    assert_eq!(rt; receiver.pull(&mut [0; 120]), Err(Refusal::FrameLength));
-    assert_eq!(rt; receiver.pull(&mut [0; 121]), Err(Refusal::Buffer));
-    assert_eq!(rt; receiver.offer(&[0; 24]), Err(Refusal::FrameLength));
+    expect(&rt, receiver.pull(&mut [0; 120]), Err(Refusal::FrameLength));
+    expect(&rt, receiver.pull(&mut [0; 121]), Err(Refusal::Buffer));
+    expect(&rt, receiver.offer(&[0; 24]), Err(Refusal::FrameLength));
     for size in [0, 25, usize::MAX] {
         let mut places = [0; 768];
         let mut receiver = Receiver::new(size, FrameQueue::new(1, &mut places));

@@ -1,6 +1,7 @@
 // Recordings and queues at their edges.
-use super::{FrameQueue, FrameSource, Next, Recording};
+use crate::expectation::expect;
 use gf::Refusal;
+use sources::{FrameQueue, FrameSource, Next, Recording};
 
 // A frame of size 1 that can be told from its 250 neighbours.
 fn frame(number: usize) -> [u8; 24] {
@@ -52,7 +53,7 @@ fn a_recording_gives_its_whole_frames(rt: HostRuntime) {
     bytes[48..].fill(9);
     for (length, frames) in [(0, 0), (23, 0), (24, 1), (25, 1), (46, 1), (48, 2), (71, 2)] {
         let mut recording = Recording::new(1, &bytes[..length]).expect(&rt, "the size is right");
-        assert_eq!(rt; recording.next(&mut [0; 23]), Err(Refusal::FrameLength));
+        expect(&rt, recording.next(&mut [0; 23]), Err(Refusal::FrameLength));
         for number in 0..frames {
             let expected = (Ok(Next::Frame), frame(7 + number));
             assert_eq!(rt;
@@ -63,8 +64,8 @@ fn a_recording_gives_its_whole_frames(rt: HostRuntime) {
         }
         let nothing = (Ok(Next::NothingWaiting), [255; 24]);
         assert_eq!(rt; take(&mut recording), nothing, "behind {length} bytes");
-        assert_eq!(rt; recording.offer(&frame(0)), Err(Refusal::Full));
-        assert_eq!(rt; recording.offer(&[0; 25]), Err(Refusal::FrameLength));
+        expect(&rt, recording.offer(&frame(0)), Err(Refusal::Full));
+        expect(&rt, recording.offer(&[0; 25]), Err(Refusal::FrameLength));
     }
 }
 
@@ -75,13 +76,13 @@ fn a_queue_is_full_at_32(rt: HostRuntime) {
     for number in 0..32 {
         assert_eq!(rt; queue.offer(&frame(number)), Ok(()), "frame {number}");
     }
-    assert_eq!(rt; queue.offer(&frame(32)), Err(Refusal::Full));
+    expect(&rt, queue.offer(&frame(32)), Err(Refusal::Full));
     // The length comes before the place.
-    assert_eq!(rt; queue.offer(&[0; 23]), Err(Refusal::FrameLength));
-    assert_eq!(rt; queue.next(&mut [0; 25]), Err(Refusal::FrameLength));
-    assert_eq!(rt; take(&mut queue), (Ok(Next::Frame), frame(0)));
-    assert_eq!(rt; queue.offer(&frame(32)), Ok(()));
-    assert_eq!(rt; queue.offer(&frame(33)), Err(Refusal::Full));
+    expect(&rt, queue.offer(&[0; 23]), Err(Refusal::FrameLength));
+    expect(&rt, queue.next(&mut [0; 25]), Err(Refusal::FrameLength));
+    expect(&rt, take(&mut queue), (Ok(Next::Frame), frame(0)));
+    expect(&rt, queue.offer(&frame(32)), Ok(()));
+    expect(&rt, queue.offer(&frame(33)), Err(Refusal::Full));
     for number in 1..33 {
         assert_eq!(rt;
             take(&mut queue),
@@ -89,7 +90,7 @@ fn a_queue_is_full_at_32(rt: HostRuntime) {
             "frame {number}"
         );
     }
-    assert_eq!(rt; take(&mut queue), (Ok(Next::NothingWaiting), [255; 24]));
+    expect(&rt, take(&mut queue), (Ok(Next::NothingWaiting), [255; 24]));
 }
 
 #[test]
@@ -121,12 +122,12 @@ fn a_queue_goes_around_many_times(rt: HostRuntime) {
 fn a_queue_of_size_24(rt: HostRuntime) {
     let mut bytes = [0; 24 * 768];
     let mut queue = FrameQueue::new(24, &mut bytes);
-    assert_eq!(rt; queue.frame_length(), 576);
+    expect(&rt, queue.frame_length(), 576);
     for number in 0..40_u8 {
         assert_eq!(rt; queue.offer(&[number; 576]), Ok(()), "frame {number}");
         let mut buffer = [255; 576];
         assert_eq!(rt; queue.next(&mut buffer), Ok(Next::Frame), "frame {number}");
-        assert_eq!(rt; buffer, [number; 576]);
+        expect(&rt, buffer, [number; 576]);
     }
 }
 
@@ -144,9 +145,9 @@ fn a_refused_queue_is_always_full(rt: HostRuntime) {
         let mut bytes = [0; 25 * 768];
         let mut queue = FrameQueue::new(size, &mut bytes[..length]);
         assert_eq!(rt; queue.frame_length(), 0, "size {size}, {length} bytes");
-        assert_eq!(rt; queue.offer(&[]), Err(Refusal::Full));
-        assert_eq!(rt; queue.offer(&[0]), Err(Refusal::FrameLength));
-        assert_eq!(rt; queue.next(&mut []), Ok(Next::NothingWaiting));
-        assert_eq!(rt; queue.next(&mut [0]), Err(Refusal::FrameLength));
+        expect(&rt, queue.offer(&[]), Err(Refusal::Full));
+        expect(&rt, queue.offer(&[0]), Err(Refusal::FrameLength));
+        expect(&rt, queue.next(&mut []), Ok(Next::NothingWaiting));
+        expect(&rt, queue.next(&mut [0]), Err(Refusal::FrameLength));
     }
 }
