@@ -14,7 +14,7 @@ returns g c =
     let start = count * long in
     let frame = c.next.new.buffer in
     let source = g.S.FrameSource.meaning c.args.source.now in
-    let taken = given _ _ _ _ _ c.next.ensures (c.in_ok-next.was ∙ ap Ok c.in-Frame.is) in
+    let taken = given _ _ _ _ _ c.next.ensures.found (c.in_ok-next.was ∙ ap Ok c.in-Frame.is) in
     let counted : count ≡ length c.args.self.now.frames =
     frames_counted long count c.self.inside.bytes c.args.self.now c.self.view_is in
     let room : (count + 1) * long ≤ 5 * 576 = mul-le (count + 1) long 5 576 (omega (arith, counted, c.requires.few)) c.self.invariant.0 in
