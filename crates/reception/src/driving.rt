@@ -1,6 +1,6 @@
 // Running a list of calls on a receiver.
 ghost use Rattle.std.specs.Prelude.{◌≡◌};
-ghost use Rattle.reception.specs.Receptions.{Reception};
+ghost use Rattle.reception.specs.Receptions.{Reception, reception};
 ghost use Rattle.reception.specs.Recovery.{BackAfterBadReception};
 ghost use Rattle.reception.specs.Service.{LineServed, NothingLostWhileHunting, OneAnswer};
 ghost use Rattle.reception.specs.Correcting.{EveryWordCorrected};
@@ -15,7 +15,7 @@ use sources::FrameSource;
 impl<S: FrameSource> Receiver<S> {
     // Runs one call, and tells the listener what came of it. A pull is lent the first bytes of the buffer.
     fn run<L: Listener>(&mut self, call: &Call<'_>, buffer: &mut [u8], listener: &mut L)
-        ensures { Ran L.hears self.old call.now buffer.old buffer.new listener.old listener.new self.new }
+        ensures { Ran L.hears (reception S.meaning self.old) call.now buffer.old buffer.new listener.old listener.new (reception S.meaning self.new) }
     {
         match *call {
             Call::Pull { length } => {

@@ -7,8 +7,8 @@ use Rattle.reception.specs.steps.Holding.{Holding, holding}
 use Rattle.reception.proofs.Framing.{frames_counted, frames_written, given}
 use Rattle.reception.proofs.held.HeldFrames.take_next.Goals as goal
 
-pub returns : goal.returns
-returns g c =
+pub returns-clause-taken : goal.returns-clause-taken
+returns-clause-taken g c =
     let long = c.self.inside.frame_length in
     let count = c.self.inside.count in
     let start = count * long in
