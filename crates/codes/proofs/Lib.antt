@@ -28,3 +28,4 @@ pub mod Searching
 pub mod Corrections
 pub mod Outcomes
 pub mod NearWords
+pub mod CorrectingWords

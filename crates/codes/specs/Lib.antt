@@ -2,4 +2,5 @@
 pub mod Polynomials
 pub mod Division
 pub mod Codewords
+pub mod Correcting
 pub mod steps

@@ -2,6 +2,7 @@
 ghost use Rattle.std.specs.Prelude.{◌≡◌, true, ◌&&◌, map, length};
 ghost use Rattle.codes.specs.Polynomials.{zeros, negs};
 ghost use Rattle.codes.specs.Codewords.{code_shape, work_shape, Filled, Encoded, Outcome, Correction, Vandermonde, SyndromesDecide, MinimumDistance};
+ghost use Rattle.codes.specs.Correcting.{Corrects};
 
 use crate::division::{clear, divide};
 use crate::errors::correct_errors;
@@ -99,6 +100,7 @@ pub fn encode<F: Field>(word: &mut [F], checks: usize, work: &mut [F]) -> Result
 // A word with no such codeword is refused and stays as it is. `work` is as for `encode`, and so is what else is refused.
 pub fn correct<F: Field>(word: &mut [F], checks: usize, work: &mut [F]) -> Result<usize, Refusal>
     ensures answer { Correction F.field F.mean checks word.old word.new work.old work.new result }
+    ensures corrects { Corrects F.field F.mean checks word.old word.new work.old work.new result }
     ensures vandermonde { Vandermonde F.field }
     ensures syndromes { SyndromesDecide F.field }
     ensures distance { MinimumDistance F.field }

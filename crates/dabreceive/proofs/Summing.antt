@@ -33,7 +33,7 @@ empty_queue size buffer least most long =
 
 -- The receiver was driven over such a queue.
 pub sums_up : (size : ℕ) {number : ℕ} {queue : Source} {calls : List Call} {buffer left : List ℕ} {report after : Reporting} {end : Reception}
-    → Driven heard number queue calls buffer left report after end
+    → Driven heard (new_receiver number queue) calls buffer left report after end
     → number ≡ size → queue ≡ queue_source (24 * size) [] 32 → buffer ≡ replicate (120 * size + 1) 0
     → SumsUp size calls report.summary after.summary
 sums_up size {calls = calls} {left = left} {report = report} {after = after} {end = end} driven number_is queue_is buffer_is = record {

@@ -1,6 +1,6 @@
 -- What dabreceive sums up of the calls that it makes, and how these are answered.
 pub mod Summaries
-pub mod Reports
 pub mod Plans
+pub mod Reports
 pub mod Units
 pub mod Lines

@@ -4,7 +4,6 @@ ghost use Rattle.dabreceive.specs.Reports.{SumsUp, Replays};
 
 use crate::plan::{buffer_length, replay_calls};
 use crate::reporting::Reporting;
-use gf::Gf256;
 use programs::SubchannelIndex;
 use reception::{Call, drive};
 use sources::{FrameQueue, PLACES};
@@ -22,7 +21,7 @@ pub fn make_calls(
     let mut places = vec![in alloc; 0u8; PLACES * size.frame_length()]?;
     let mut buffer = vec![in alloc; 0u8; buffer_length(size)]?;
     let queue = FrameQueue::new(size.number(), &mut places);
-    drive::<Gf256, FrameQueue<'_>, Reporting<'_>>(size.number(), queue, calls, &mut buffer, report);
+    drive(size.number(), queue, calls, &mut buffer, report);
     Ok(())
 }
 

@@ -4,7 +4,6 @@ pub mod RepairedBlocks
 pub mod Judging
 pub mod Ruling
 pub mod Drives
-pub mod CorrectingWords
 pub mod Lists
 pub mod Steps
 pub mod NotRefused

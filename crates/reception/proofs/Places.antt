@@ -32,7 +32,7 @@ pub record Aligned (n held : ℕ) : Type 0 where
 
 -- `Strays` says whether it may be locked to others.
 module _ (Strays : Type 0) where
-  -- It is locked to others: when the stretch began, it held `shift` frames, and it has missed `lost` blocks since.
+  -- It is locked to others: at the cut it held `shift` frames, and it has missed `lost` blocks since.
   pub record Astray (n held misses patience : ℕ) : Type 0 where
     pub strays : Strays
     pub shift : ℕ

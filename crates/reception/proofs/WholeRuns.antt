@@ -17,7 +17,7 @@ number_push : (es : List Event) (e : Event) → number_taken (es ++ e ∷ []) �
 number_push [] e = omega arith
 number_push (x ∷ es) e = omega (arith, number_push es e)
 
-accepted-append : (es others : List Event) → accepted (es ++ others) ≡ accepted es ++ accepted others
+pub accepted-append : (es others : List Event) → accepted (es ++ others) ≡ accepted es ++ accepted others
 accepted-append [] others = refl
 accepted-append (e ∷ es) others =
     ap (λ l. accepted_by e ++ l) (accepted-append es others) ∙ sym (append_assoc (accepted_by e) (accepted es) (accepted others))
@@ -51,7 +51,7 @@ taking_keeps : (e : Event) (p : ℕ) → takes e ≡ true → patience_by e p �
 taking_keeps (patience_set number answer) p t = absurd (false≢true t)
 taking_keeps _ p t = refl
 
-quiet_keeps : (e : Event) (p : ℕ) → disturbs e ≡ false → patience_by e p ≡ p
+pub quiet_keeps : (e : Event) (p : ℕ) → disturbs e ≡ false → patience_by e p ≡ p
 quiet_keeps (patience_set number answer) p t = ap (λ b. cond b number p) t
 quiet_keeps _ p t = refl
 

@@ -1,11 +1,10 @@
--- What running a list of calls on a new receiver comes to.
+-- What running a list of calls on a receiver comes to.
 use Rattle.std.specs.Prelude.{◌≡◌, ℕ, List, [], ◌∷◌, ◌++◌, length, take, drop}
-use Rattle.sources.specs.Sources.{Source}
 use Rattle.reception.specs.declared.calls.Call.{Call}
 use Rattle.reception.specs.declared.calls.Call.TheVariants.{Pull, Offer, Reset, Patience, Report}
 use Rattle.reception.specs.declared.calls.Outcome.{Outcome}
 use Rattle.reception.specs.declared.calls.Outcome.TheVariants as outcomes
-use Rattle.reception.specs.Receptions.{Reception, new_receiver, Asked, pull, offer, reset, patience, report, Event, pulled, offered, restarted, patience_set, reported, asked_by}
+use Rattle.reception.specs.Receptions.{Reception, Asked, pull, offer, reset, patience, report, Event, pulled, offered, restarted, patience_set, reported, asked_by}
 use Rattle.reception.specs.Runs.{Run}
 
 -- what a call asks, made while the buffer for pulls holds these bytes: a pull is lent as many of them as it says, or all
@@ -50,11 +49,18 @@ module _ {L : Type 0} (hears : L → Call → Outcome → List ℕ → L → Typ
   Told (call ∷ calls) (e ∷ es) listener after =
       (between : L) × hears listener call (outcome_of e) (block_of e) between × Told calls es between after
 
-  -- A receiver of this size over this source was made, the calls were run on it, and the listener was told of each. Before, the buffer for
-  -- pulls and the listener were these; now they are `left` and `after`, and the receiver is `end`.
-  pub record Driven (size : ℕ) (source : Source) (calls : List Call) (buffer left : List ℕ) (listener after : L) (end : Reception) : Type 0 where
+  -- These calls were run on a receiver, and the listener was told of each. Before, the buffer for pulls and the listener were these; now they
+  -- are `left` and `after`, and the receiver is `end`.
+  pub record Driven (r : Reception) (calls : List Call) (buffer left : List ℕ) (listener after : L) (end : Reception) : Type 0 where
     pub events : List Event
     -- each by the rules
-    pub run : Run (new_receiver size source) events end
+    pub run : Run r events end
     pub answered : Answered calls buffer events left
     pub told : Told calls events listener after
+
+  -- What is run piece by piece is one run: all calls, with the events of the first piece and then those of the second.
+  abbrev pub PiecesAreOneRun : Type 0
+  PiecesAreOneRun =
+      (r between end : Reception) (calls more : List Call) (buffer middle left : List ℕ) (listener told after : L)
+      (first : Driven r calls buffer middle listener told between) (second : Driven between more middle left told after end)
+      → (whole : Driven r (calls ++ more) buffer left listener after end) × (whole.events ≡ first.events ++ second.events)

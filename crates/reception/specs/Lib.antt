@@ -5,6 +5,5 @@ pub mod Rules
 pub mod Runs
 pub mod Recovery
 pub mod Service
-pub mod Correcting
 pub mod Driving
 pub mod steps

@@ -1,5 +1,5 @@
 -- Runs: calls and answers one after another, each by the rules; and what they tell of frames and of the patience.
-use Rattle.std.specs.Prelude.{ℕ, ◌+◌, Bool, true, false, cond, is_ok, List, [], ◌∷◌, ◌++◌, take, Ok}
+use Rattle.std.specs.Prelude.{◌≡◌, ℕ, ◌+◌, Bool, true, false, cond, is_ok, List, [], ◌∷◌, ◌++◌, take, Ok}
 use Rattle.reception.specs.declared.answers.Pulled.{Pulled}
 use Rattle.reception.specs.declared.answers.Pulled.TheVariants.{NothingWaiting, Delivered}
 use Rattle.reception.specs.Receptions.{Reception, Event, pulled, offered, restarted, patience_set}
@@ -79,3 +79,14 @@ is_reset e = false
 abbrev pub found : Bool → List Event → Bool
 found before [] = before
 found before (e ∷ es) = found (cond (is_reset e) false (cond (is_delivery e) true before)) es
+
+-- A run that is cut in two: what came before the cut, and what came later.
+pub record Cut {r after : Reception} (past future : List Event) (run : Run r (past ++ future) after) : Type 0 where
+  pub cut : Reception
+  pub earlier : Run r past cut
+  pub later : Run cut future after
+  pub frames : frames_taken run ≡ frames_taken earlier ++ frames_taken later
+
+-- Every run can be cut before each of its events, and at its end.
+abbrev pub CutAnywhere : Type 0
+CutAnywhere = (r after : Reception) (past future : List Event) (run : Run r (past ++ future) after) → Cut past future run

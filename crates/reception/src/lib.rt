@@ -14,6 +14,6 @@ mod tests;
 
 pub use answers::{Delivery, Pulled, Report, UnitState};
 pub use calls::{Call, Listener, Outcome};
-pub use driving::drive;
+pub use driving::{correct_and_drive, drive};
 pub use mode::Mode;
 pub use receiver::Receiver;

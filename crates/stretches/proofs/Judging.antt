@@ -1,4 +1,4 @@
--- What repairing and opening a block decides: that it is a super frame as it was written, or that it is not legible.
+-- What repairing and opening a block decides: that it carries a super frame, or that it is not legible.
 use Rattle.std.proofs.Common.{◌≡◌, ℕ, suc, ◌*◌, ◌<◌, ◌≤◌, Bool, true, false, cond, not, ◌↔◌, eqb, eq-eqb, le-leb, ltb, lt-ltb, List, [], ◌∷◌, length, get_or, Option, Some, None, is_none, Ok, Err, Result, MatchResult, sym, refl, ap, ◌∙◌, subst, arith}
 use Rattle.std.proofs.lemmas.Bool.{false≢true, and_from}
 use Rattle.std.proofs.lemmas.List.{length-map}
@@ -12,7 +12,6 @@ use Rattle.gf.specs.Fields.{gf256}
 use Rattle.gf.specs.laws.FieldLaws.{laws256}
 use Rattle.gf.specs.Refusals.{first_refusal}
 use Rattle.codes.specs.Codewords.{distance, Codeword}
-use Rattle.codes.proofs.TakenOff.{distance-same}
 use Rattle.interleaver.specs.declared.repair.Repair.{Repair}
 use Rattle.interleaver.specs.Rows.{row_of, elements, wrong, RowRepaired, AreBytes}
 use Rattle.interleaver.proofs.Bytes.{same_bytes}
@@ -21,13 +20,14 @@ use Rattle.block.specs.declared.reader.AccessUnit.{AccessUnit}
 use Rattle.block.specs.BlockRows.{RowsRepaired, RowsRight}
 use Rattle.block.specs.declared.header.Header.{Header}
 use Rattle.block.specs.Headers.{header, there, unit_count, check_fits}
-use Rattle.block.specs.Laws.{Flawless}
+use Rattle.block.specs.Laws.{untouched}
 use Rattle.block.specs.States.{header_of, FindsUnit, unit_complaints}
 use Rattle.block.proofs.HeaderParts.{right_from}
-use Rattle.reception.specs.Blocks.{RepairOf, Misread, IsLegible, SuperFrame, Carries}
+use Rattle.block.proofs.Untouched.{repaired-untouched}
+use Rattle.reception.specs.Blocks.{Misread, IsLegible, SuperFrame}
 use Rattle.reception.proofs.RepairedBlocks.{repaired_once, carried_repair, written_reads}
 use Rattle.reception.proofs.Judging.{never_both}
-use Rattle.stretches.specs.Instances.{Reads, Written, AllGood}
+use Rattle.stretches.specs.Instances.{Reads, Carried, AllGood}
 
 -- none of three refusals applies, so the last test passes
 last_passes : (a b c : Bool) (first second third : Refusal) → first_refusal ((not a, first) ∷ (not b, second) ∷ (not c, third) ∷ []) ≡ None → c ≡ true
@@ -86,9 +86,22 @@ refused_or_legible size received block (Ok read) reads = (
 )
 refused_or_legible size received block (Err refusal) missed = (λ _. never_both size received refusal missed, λ _. refl)
 
--- a super frame as it was written is not refused
-pub written_not_refused : (size : ℕ) (received : List ℕ) (refusal : Refusal) → Misread size received refusal → Written size received → ⊥
-written_not_refused size received refusal missed w = never_both size received refusal missed (w.header, w.flawless.legible)
+-- a block that carries a super frame is legible, and so not refused
+pub carried_not_refused : (size wrong_bytes : ℕ) (received : List ℕ) (refusal : Refusal) → Misread size received refusal
+    → Carried size wrong_bytes received → ⊥
+carried_not_refused size wrong_bytes received refusal missed c =
+    let w = c.written in
+    let r = carried_repair size received w c.carries in
+    never_both size received refusal missed (
+      w.header,
+      record {
+        repaired = w.block;
+        repair = record { changed = wrong received w.block; rows_left = 0; lowest_left = None };
+        bytes = r.bytes;
+        rows = r.rows;
+        right = written_reads size w.block w.header c.carries.written_long c.carries.written_bytes c.carries.flawless;
+      },
+    )
 
 -- nothing is counted, so nothing passes
 none_counted : {X : Type 0} (p : X → Bool) (xs : List X) (d : X) (k : ℕ) → count_by p xs ≡ 0 → k < length xs → p (get_or xs k d) ≡ false
@@ -112,79 +125,86 @@ same_words {f = f} l (a ∷ u) (b ∷ v) e none = by (f.equal a b) refl none (sa
         cc
     by false other less others = absurd (omega arith)
 
--- a row that is not left is a codeword
+-- a row that is not left is a codeword, at most five bytes away
 row_right : (before after : List ℕ) (outcome : Option ℕ) → RowRepaired 10 before after outcome → is_none outcome ≡ false
-    → Codeword gf256 10 (elements after)
-row_right before after (Some count) repaired is = repaired.codeword
+    → Codeword gf256 10 (elements after) × (wrong before after ≤ 5)
+row_right before after (Some count) repaired is = (repaired.codeword, omega (arith, repaired.counted, repaired.few))
 row_right before after None repaired is = absurd (false≢true (sym is))
 
-rows_right : (size : ℕ) (before after : List ℕ) (repair : Repair) → RowsRepaired size before after repair → repair.rows_left ≡ 0 → RowsRight size after
+rows_right : (size : ℕ) (before after : List ℕ) (repair : Repair) → RowsRepaired size before after repair → repair.rows_left ≡ 0
+    → (i : ℕ) → i < size
+    → Codeword gf256 10 (elements (row_of size 120 after i)) × (wrong (row_of size 120 before i) (row_of size 120 after i) ≤ 5)
 rows_right size before after repair r none i h =
     row_right (row_of size 120 before i) (row_of size 120 after i) (get_or r.outcomes i None) (r.by_row i h)
     (none_counted is_none r.outcomes None i (sym r.left ∙ none) (omega (arith, r.each)))
 
--- a block that its repair does not change is the repaired one
-unchanged : (size : ℕ) (received block : List ℕ) (repair : Repair) → RepairOf size received block repair → AreBytes received → repair.changed ≡ 0
-    → block ≡ received
-unchanged size received block repair r bytes none =
-    sym (same_bytes received block bytes r.bytes
-    (same_words laws256 (elements received) (elements block) (simp length-map (sym r.rows.long)) (sym r.rows.changed ∙ none)))
-
--- a block that its repair does not change is a super frame as it was written, if no row is left, its header is right and every unit is good
-pub written : (size : ℕ) (received block : List ℕ) (opened : Opened) (repair : Repair) → AreBytes received → Reads size received block opened repair
-    → repair.changed ≡ 0 → repair.rows_left ≡ 0 → AllGood (header_of opened) block → Written size received
-written size received block opened repair bytes reads none none_left good = record {
-  bytes = bytes;
-  long = reads.repaired.long;
-  header = header_of opened;
-  flawless = record {
-    legible = record {
-      repaired = block;
-      repair = repair;
-      bytes = reads.repaired.bytes;
-      rows = reads.repaired.rows;
-      right = reads.header_is;
+-- A block of which no row is left, whose header is read and whose units are good carries the super frame that its repair gives.
+pub carried : (size wrong_bytes : ℕ) (received block : List ℕ) (opened : Opened) (repair : Repair) → (1 ≤ size) × (size ≤ 24) → AreBytes received
+    → Reads size received block opened repair → repair.changed ≡ wrong_bytes → repair.rows_left ≡ 0 → AllGood (header_of opened) block
+    → Carried size wrong_bytes received
+carried size wrong_bytes received block opened repair in_range bytes reads changed none_left good = record {
+  written = record { block = block; header = header_of opened };
+  carries = record {
+    in_range = in_range;
+    received_long = reads.repaired.long;
+    received_bytes = bytes;
+    written_long = reads.repaired.rows.long ∙ reads.repaired.long;
+    written_bytes = reads.repaired.bytes;
+    flawless = record {
+      legible = record {
+        repaired = block;
+        repair = untouched;
+        bytes = reads.repaired.bytes;
+        rows = repaired-untouched size 120 10 block refl codewords;
+        right = reads.header_is;
+      };
+      codewords = codewords;
+      good = good;
     };
-    codewords = subst (RowsRight size) same (rows_right size received block repair reads.repaired.rows none_left);
-    good = subst (AllGood (header_of opened)) same good;
+    few_wrong = λ i h. (rows i h).1;
   };
+  counted = sym reads.repaired.rows.changed ∙ changed;
 }
   where
-    same : block ≡ received
-    same = unchanged size received block repair reads.repaired bytes none
+    rows : (i : ℕ) → i < size
+        → Codeword gf256 10 (elements (row_of size 120 block i)) × (wrong (row_of size 120 received i) (row_of size 120 block i) ≤ 5)
+    rows = rows_right size received block repair reads.repaired.rows none_left
 
--- a super frame that is received as it was written
-pub carries : (size : ℕ) (w : SuperFrame) → (1 ≤ size) × (size ≤ 24) → (r : Written size w.block) → r.header ≡ w.header → Carries size w.block w
-carries size w in_range r same = record {
-  in_range = in_range;
-  received_long = r.long;
-  received_bytes = r.bytes;
-  written_long = r.long;
-  written_bytes = r.bytes;
-  flawless = subst (Flawless size w.block) same r.flawless;
-  few_wrong = λ row h. omega (arith, distance-same laws256 (elements (row_of size 120 w.block row)));
-}
+    codewords : RowsRight size block
+    codewords i h = (rows i h).0
 
--- What is read of a super frame as it was written.
-pub record ReadsWritten (received block : List ℕ) (opened : Opened) (repair : Repair) : Type 0 where
-  pub changes_nothing : (repair.changed ≡ 0) × (repair.rows_left ≡ 0)
+-- What is read of a block that carries a super frame.
+pub record ReadsCarried (wrong_bytes : ℕ) (block : List ℕ) (opened : Opened) (repair : Repair) : Type 0 where
+  pub changes : (repair.changed ≡ wrong_bytes) × (repair.rows_left ≡ 0)
   pub all_good : AllGood (header_of opened) block
 
-pub written_read : (size : ℕ) (received block : List ℕ) (opened : Opened) (repair : Repair) → (1 ≤ size) × (size ≤ 24)
-    → Reads size received block opened repair → Written size received → ReadsWritten received block opened repair
-written_read size received block opened repair in_range reads w = record {
-  changes_nothing = (
-    ap (λ (r : Repair). r.changed) same.1 ∙ distance-same laws256 (elements received),
-    ap (λ (r : Repair). r.rows_left) same.1,
-  );
-  all_good = subst (λ b. AllGood (header_of opened) b) (sym same.0) (subst (λ h. AllGood h received) header_is w.flawless.good);
+pub carried_read : (size wrong_bytes : ℕ) (received block : List ℕ) (opened : Opened) (repair : Repair) → Reads size received block opened repair
+    → Carried size wrong_bytes received → ReadsCarried wrong_bytes block opened repair
+carried_read size wrong_bytes received block opened repair reads c = record {
+  changes = (ap (λ (r : Repair). r.changed) same.1 ∙ c.counted, ap (λ (r : Repair). r.rows_left) same.1);
+  all_good = subst (λ b. AllGood (header_of opened) b) (sym same.0) (subst (λ h. AllGood h w.block) header_is c.carries.flawless.good);
 }
   where
-    same : (block ≡ received) × (repair ≡ record { changed = wrong received received; rows_left = 0; lowest_left = None })
-    same = repaired_once size received block received repair _ reads.repaired (carried_repair size received (record { block = received; header = w.header }) (carries size (record { block = received; header = w.header }) in_range w refl))
+    w : SuperFrame
+    w = c.written
+
+    same : (block ≡ w.block) × (repair ≡ record { changed = wrong received w.block; rows_left = 0; lowest_left = None })
+    same = repaired_once size received block w.block repair _ reads.repaired (carried_repair size received w c.carries)
 
     header_is : w.header ≡ header_of opened
-    header_is = cc (written_reads size received w.header w.long w.bytes w.flawless, reads.header_is, ap (header size) same.0)
+    header_is =
+        cc (
+          written_reads size w.block w.header c.carries.written_long c.carries.written_bytes c.carries.flawless,
+          reads.header_is,
+          ap (header size) same.0,
+        )
+
+-- where no byte is wrong, the block is the written one
+pub none_wrong : (size : ℕ) (received : List ℕ) (c : Carried size 0 received) → c.written.block ≡ received
+none_wrong size received c =
+    let w = c.carries in
+    sym (same_bytes received c.written.block w.received_bytes w.written_bytes
+    (same_words laws256 (elements received) (elements c.written.block) (simp length-map (w.received_long ∙ sym w.written_long)) c.counted))
 
 -- the block that is read is as long as its header says
 pub read_long : (size : ℕ) (received block : List ℕ) (opened : Opened) (repair : Repair) → Reads size received block opened repair

@@ -4,3 +4,5 @@ pub mod Lines
 pub mod Instancing
 pub mod Pulling
 pub mod Demonstrating
+pub mod HandedIn
+pub mod Losing

@@ -22,6 +22,7 @@ use Rattle.reception.proofs.Lists.{same_head, same_tail}
 use Rattle.reception.proofs.Serving.{line_served}
 use Rattle.reception.proofs.Steps.{rule_size, rule_line, rule_number}
 use Rattle.stretches.specs.Instances.{receiver_over, WholeRun}
+use Rattle.stretches.specs.steps.Feeding.{AllCalm}
 use Rattle.stretches.proofs.Judging.{none_applies}
 
 -- a pull with a buffer of the right length is not refused
@@ -79,18 +80,13 @@ leaves (sets_patience _) same long = cc
 leaves (keeps_patience _) same long = cc
 leaves reports same long = cc
 
--- no event disturbs
-abbrev AllCalm : List Event → Type 0
-AllCalm [] = Unit {0}
-AllCalm (e ∷ es) = (disturbs e ≡ false) × AllCalm es
-
 calm_there : (before events later : List Event) (e : Event) → AllCalm events → events ≡ before ++ e ∷ later → disturbs e ≡ false
 calm_there [] [] later e calm same = cc
 calm_there (b ∷ before) [] later e calm same = cc
 calm_there [] (x ∷ es) later e calm same = ap disturbs (sym (same_head same)) ∙ calm.0
 calm_there (b ∷ before) (x ∷ es) later e calm same = calm_there before es later e calm.1 (same_tail same)
 
-undisturbed : (super_frames : ℕ) (events : List Event) → AllCalm events → Undisturbed super_frames events
+pub undisturbed : (super_frames : ℕ) (events : List Event) → AllCalm events → Undisturbed super_frames events
 undisturbed super_frames events calm before later e same disturbing =
     absurd (false≢true (sym (calm_there before events later e calm same) ∙ disturbing))
 
@@ -128,7 +124,7 @@ all_taken size (suc n) buffer left (e ∷ es) (goes_on {r = r} {between = betwee
 
 -- a receiver that was driven over a recording, by a pull for each whole frame, took every one
 pub whole_run : {L : Type 0} {hears : L → Call → Outcome → List ℕ → L → Type 0} {source : Source} {calls : List Call} {buffer left : List ℕ}
-    {listener told : L} {end : Reception} (size : ℕ) (bytes : List ℕ) → Driven hears size source calls buffer left listener told end
+    {listener told : L} {end : Reception} (size : ℕ) (bytes : List ℕ) → Driven hears (new_receiver size source) calls buffer left listener told end
     → first_refusal (of_size size []) ≡ None → source ≡ recording_source (24 * size) bytes → calls ≡ pulls size (length bytes / (24 * size))
     → length buffer ≡ 120 * size → WholeRun size bytes
 whole_run {buffer = buffer} {left = left} {end = end} size bytes driven admitted source_is calls_are long = record {

@@ -1,15 +1,14 @@
 -- Recordings that meet what the laws over runs suppose, and what the laws then say of every run over them.
-use Rattle.std.specs.Prelude.{◌≡◌, ◌≢◌, ℕ, ◌+◌, ◌-◌, ◌*◌, ◌/◌, ◌%◌, ◌<◌, ◌≤◌, true, List, [], ◌∷◌, ◌++◌, length, Ok, slice_range}
+use Rattle.std.specs.Prelude.{◌≡◌, ℕ, ◌+◌, ◌-◌, ◌*◌, ◌/◌, ◌<◌, ◌≤◌, true, List, [], ◌∷◌, ◌++◌, length, Ok, slice_range}
 use Rattle.interleaver.specs.declared.repair.Repair.{Repair}
-use Rattle.interleaver.specs.Rows.{AreBytes}
+use Rattle.interleaver.specs.Rows.{wrong}
 use Rattle.block.specs.declared.header.Header.{Header}
 use Rattle.block.specs.declared.reader.Opened.{Opened}
 use Rattle.block.specs.Headers.{header, unit_count, check_fits}
-use Rattle.block.specs.Laws.{Flawless}
 use Rattle.block.specs.States.{header_of}
 use Rattle.sources.specs.Recordings.{recording_source}
 use Rattle.reception.specs.Receptions.{Reception, new_receiver, Event}
-use Rattle.reception.specs.Blocks.{RepairOf, IsLegible, SuperFrame}
+use Rattle.reception.specs.Blocks.{RepairOf, IsLegible, SuperFrame, Carries}
 use Rattle.reception.specs.Runs.{Run, takes, number_taken, frames_taken, patience_after, until_taken}
 use Rattle.reception.specs.Recovery.{At, line_of, Stretch, Undisturbed, FifthOf, NoOtherLegible, AsWritten, Keeps}
 use Rattle.reception.specs.Service.{NoFalseBoundary}
@@ -23,25 +22,33 @@ pub record Reads (size : ℕ) (received block : List ℕ) (opened : Opened) (rep
 abbrev pub AllGood : Header → List ℕ → Type 0
 AllGood h block = (n : ℕ) → n < unit_count h → check_fits h block n ≡ true
 
--- A block of bytes that is a super frame as it was written.
-pub record Written (size : ℕ) (block : List ℕ) : Type 0 where
-  pub bytes : AreBytes block
-  pub long : length block ≡ 120 * size
-  pub header : Header
-  pub flawless : Flawless size block header
+-- A received block that carries a super frame as it was written, with so many bytes wrong in all and at most five in each row.
+pub record Carried (size wrong_bytes : ℕ) (received : List ℕ) : Type 0 where
+  pub written : SuperFrame
+  pub carries : Carries size received written
+  pub counted : wrong received written.block ≡ wrong_bytes
 
 -- the bytes of five frames in a row of a recording, the first of them frame `place`
 abbrev pub five_frames : ℕ → List ℕ → ℕ → List ℕ
 five_frames size bytes place = slice_range bytes (place * (24 * size)) (place * (24 * size) + 120 * size)
 
--- At every fifth place a super frame begins as it was written; from any other place on, five frames are not legible.
-pub record AsSent (size : ℕ) (bytes : List ℕ) (place : ℕ) : Type 0 where
-  pub begins : place % 5 ≡ 0 → Written size (five_frames size bytes place)
-  pub between : place % 5 ≢ 0 → IsLegible size (five_frames size bytes place) → ⊥
+-- One of the super frames begins at `place` that stand one behind another from frame `start` on.
+abbrev pub BeginsAt : ℕ → ℕ → Type 0
+BeginsAt start place = (number : ℕ) × (place ≡ start + 5 * number)
+
+-- Where a super frame begins, five frames carry it with so many bytes wrong; from any other place on, five frames are not legible if the last
+-- of them belongs to the super frames.
+pub record AsSent (size start wrong_bytes : ℕ) (bytes : List ℕ) (place : ℕ) : Type 0 where
+  pub begins : BeginsAt start place → Carried size wrong_bytes (five_frames size bytes place)
+  pub between : (BeginsAt start place → ⊥) → start < place + 5 → IsLegible size (five_frames size bytes place) → ⊥
 
 -- so from every place on, as long as five whole frames follow
-abbrev pub IsStretch : ℕ → List ℕ → Type 0
-IsStretch size bytes = (place : ℕ) → place + 5 ≤ length bytes / (24 * size) → AsSent size bytes place
+abbrev pub IsStretch : ℕ → ℕ → ℕ → List ℕ → Type 0
+IsStretch size start wrong_bytes bytes = (place : ℕ) → place + 5 ≤ length bytes / (24 * size) → AsSent size start wrong_bytes bytes place
+
+-- how many super frames a recording has from frame `start` on
+abbrev pub count_from : ℕ → ℕ → List ℕ → ℕ
+count_from size start bytes = (length bytes / (24 * size) - start) / 5
 
 -- a new receiver over a recording
 abbrev pub receiver_over : ℕ → List ℕ → Reception
@@ -77,18 +84,18 @@ pub record WholeRun (size : ℕ) (bytes : List ℕ) : Type 0 where
   pub all_taken : number_taken events ≡ length bytes / (24 * size)
   pub undisturbed : (super_frames : ℕ) → Undisturbed super_frames events
 
--- One of the events takes the fifth frame of super frame i, and delivers it as it was written.
-pub record DeliveredIn (size : ℕ) (events : List Event) (i : ℕ) (written : SuperFrame) : Type 0 where
+-- One of the events takes the fifth frame of super frame i, received as this block, and delivers it as it was written.
+pub record DeliveredIn (size : ℕ) (received : List ℕ) (events : List Event) (i : ℕ) (written : SuperFrame) : Type 0 where
   pub before : List Event
   pub later : List Event
   pub e : Event
   pub among : events ≡ before ++ e ∷ later
   pub taken : takes e ≡ true
   pub fifth : FifthOf i (number_taken before)
-  pub as_written : AsWritten size written.block written e
+  pub as_written : AsWritten size received written e
 
 -- The recording is an instance of the laws, and there is a run over it in which every super frame is delivered as it was written.
 pub record Demonstrated (size count : ℕ) (bytes : List ℕ) : Type 0 where
   pub instance : Instance size count bytes
   pub whole : WholeRun size bytes
-  pub all : {i : ℕ} {written : SuperFrame} → At instance.sent i written → DeliveredIn size whole.events i written
+  pub all : {i : ℕ} {written : SuperFrame} → At instance.sent i written → DeliveredIn size written.block whole.events i written

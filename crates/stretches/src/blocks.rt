@@ -1,9 +1,9 @@
-// Whether the block that five frames make is a super frame as it was written, or cannot be read at all.
+// Whether the block that five frames make carries a super frame, or cannot be read at all.
 ghost use Rattle.std.specs.Prelude.{◌≡◌, ◌*◌, ◌≤◌, ◌↔◌, length, IsTrue, MatchResult};
 ghost use Rattle.interleaver.specs.Rows.{AreBytes};
 ghost use Rattle.block.specs.States.{header_of};
 ghost use Rattle.reception.specs.Blocks.{Misread, IsLegible};
-ghost use Rattle.stretches.specs.Instances.{Reads, Written, AllGood};
+ghost use Rattle.stretches.specs.Instances.{Reads, Carried, AllGood};
 
 use block::{Opened, Received, Repair};
 use gf::Refusal;
@@ -42,23 +42,24 @@ fn read_block(size: usize, block: &[u8], work: &mut [u8]) -> Result<(Opened, Rep
     open_block(size, work)
 }
 
-// Whether the repair changed no byte, and left no row.
-pub(crate) fn changes_nothing(repair: &Repair) -> bool
-    ensures { IsTrue result ↔ ((repair.now.changed ≡ 0) × (repair.now.rows_left ≡ 0)) }
+// Whether the repair changed so many bytes, and left no row.
+pub(crate) fn changes(repair: &Repair, wrong_bytes: usize) -> bool
+    ensures { IsTrue result ↔ ((repair.now.changed ≡ wrong_bytes) × (repair.now.rows_left ≡ 0)) }
 {
-    repair.changed == 0 && repair.rows_left == 0
+    repair.changed == wrong_bytes && repair.rows_left == 0
 }
 
-// Whether repairing the block changes no byte and leaves no row, its header is right, and every unit is good.
-pub(crate) fn is_flawless(size: usize, block: &[u8], work: &mut [u8]) -> bool
+// Whether the block carries a super frame with so many bytes wrong: repairing it changes as many and leaves no row, its header is right, and
+// every unit is good.
+pub(crate) fn is_carried(size: usize, wrong_bytes: usize, block: &[u8], work: &mut [u8]) -> bool
     requires size { (1 ≤ size) × (size ≤ 24) }
     requires long { (length block.now ≡ 120 * size) × (length work.old ≡ 120 * size) }
-    ensures { IsTrue result ↔ Written size block.now }
+    ensures { IsTrue result ↔ Carried size wrong_bytes block.now }
 {
     let Ok((opened, repair)) = read_block(size, block, work) else {
         return false;
     };
-    changes_nothing(&repair) && all_units_good(&opened, work)
+    changes(&repair, wrong_bytes) && all_units_good(&opened, work)
 }
 
 // Whether the header of the block is refused, once its rows are repaired.

@@ -3,9 +3,12 @@
 
 mod blocks;
 mod failure;
+mod feeding;
+mod losses;
 mod receiving;
 mod stretch;
 mod trial;
+mod witness;
 
 use failure::Failure;
 use programs::exit_code;

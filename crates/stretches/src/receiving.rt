@@ -2,9 +2,8 @@
 ghost use Rattle.std.specs.Prelude.{IfOk};
 ghost use Rattle.stretches.specs.Instances.{WholeRun};
 
-use crate::blocks::changes_nothing;
+use crate::blocks::changes;
 use crate::failure::Failure;
-use gf::Gf256;
 use reception::{Call, Delivery, Listener, Outcome, Pulled, UnitState, drive};
 use sources::Recording;
 use std::alloc::Global;
@@ -32,7 +31,7 @@ fn is_untouched(delivery: &Delivery) -> bool {
         .iter()
         .filter(|unit| **unit == Some(UnitState::Good))
         .count();
-    changes_nothing(&delivery.repair) && good == units
+    changes(&delivery.repair, 0) && good == units
 }
 
 impl Listener for Deliveries<'_> {
@@ -69,6 +68,6 @@ pub fn receive(alloc: Global, size: usize, recording: &[u8]) -> Result<Tally, Fa
         rest: recording,
         tally,
     };
-    drive::<Gf256, _, _>(size, source, &calls, &mut buffer, &mut deliveries);
+    drive(size, source, &calls, &mut buffer, &mut deliveries);
     Ok(deliveries.tally)
 }

@@ -17,9 +17,9 @@ pub struct Trial {
 
 // Tries a recording; none comes of it where it is not what the laws suppose.
 pub fn try_recording(alloc: Global, size: usize, recording: &[u8]) -> Result<Option<Trial>, Failure>
-    ensures { IfOk result (λ tried. MatchOption tried (IsStretch size recording.now → ⊥) (λ trial. Demonstrated size trial.super_frames recording.now)) }
+    ensures { IfOk result (λ tried. MatchOption tried (IsStretch size 0 0 recording.now → ⊥) (λ trial. Demonstrated size trial.super_frames recording.now)) }
 {
-    let Some(super_frames) = find_stretch(size, recording)? else {
+    let Some(super_frames) = find_stretch(size, 0, 0, recording)? else {
         return Ok(None);
     };
     let tally = receive(alloc, size, recording)?;

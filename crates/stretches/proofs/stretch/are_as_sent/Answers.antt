@@ -6,7 +6,7 @@ use Rattle.stretches.proofs.stretch.are_as_sent.Goals as goal
 
 pub loop-place-preserved : goal.loop-place-preserved
 loop-place-preserved c =
-    below_more (AsSent c.args.size c.args.recording.now) c.loop-place.place c.loop-place.invariant (c.is_as_sent.ensures.0 c.if-not-is_as_sent.false)
+    below_more (AsSent c.args.size c.args.start c.args.wrong_bytes c.args.recording.now) c.loop-place.place c.loop-place.invariant (c.is_as_sent.ensures.0 c.if-not-is_as_sent.false)
 
 pub returns-then-not-is_as_sent : goal.returns-then-not-is_as_sent
 returns-then-not-is_as_sent c = (

@@ -4,4 +4,4 @@ use Rattle.stretches.specs.Instances.{AsSent}
 use Rattle.stretches.proofs.stretch.are_as_sent.Given as goal
 
 abbrev pub invariant-loop-place : goal.invariant-loop-place
-invariant-loop-place l = (k : ℕ) → k < l.place → AsSent l.fn.size l.fn.recording k
+invariant-loop-place l = (k : ℕ) → k < l.place → AsSent l.fn.size l.fn.start l.fn.wrong_bytes l.fn.recording k

@@ -1,10 +1,10 @@
--- What correcting a word comes to, over every field.
+-- What correcting a word comes to, over every field, in the words of near codewords.
 use Rattle.std.specs.Prelude.{◌≡◌, ℕ, ◌*◌, ◌≤◌, Bool, true, false, ◌&&◌, ◌⊎◌, List, map, length, Ok, Err, Result, slice_index_or}
 use Rattle.gf.specs.declared.refusal.Refusal.{Refusal}
 use Rattle.gf.specs.declared.refusal.Refusal.TheVariants.{Shape, BeyondRepair}
 use Rattle.gf.specs.Theory.{Operations}
 use Rattle.codes.specs.Polynomials.{zeros}
-use Rattle.codes.specs.Codewords.{Codeword, distance, code_shape, work_shape, Correction}
+use Rattle.codes.specs.Codewords.{Codeword, distance, code_shape, work_shape}
 
 module _ {E S : Type 0} (f : Operations E) (mean : S → E) where
   -- The codeword differs from the word in at most half as many places as there are checks.
@@ -34,11 +34,3 @@ module _ {E S : Type 0} (f : Operations E) (mean : S → E) where
     pub kept : (j : ℕ) (s : S) → mean (slice_index_or before j s) ≡ mean (slice_index_or after j s) → slice_index_or before j s ≡ slice_index_or after j s
     -- where none is near, it is refused, and nothing is changed
     pub far : admitted checks before work_before ≡ true → ((c : List E) → Near checks before c → ⊥) → (answer ≡ Err BeyondRepair) × (after ≡ before)
-
-  -- Whatever `codes::correct` answers of any word, number of checks and work buffer, this is true of it: `Correction` is what its contract
-  -- promises of every call.
-  abbrev pub EveryWordCorrected : Type 0
-  EveryWordCorrected =
-      (checks : ℕ) (before after work_before work_after : List S) (answer : Result ℕ Refusal)
-      → Correction f mean checks before after work_before work_after answer
-      → Corrects checks before after work_before work_after answer

@@ -6,10 +6,10 @@ use Rattle.gf.specs.declared.refusal.Refusal.{Refusal}
 use Rattle.gf.specs.declared.refusal.Refusal.TheVariants.{Shape, BeyondRepair}
 use Rattle.gf.specs.Theory.{Operations, Laws}
 use Rattle.codes.specs.Polynomials.{zeros}
-use Rattle.codes.specs.Codewords.{distance, code_shape, work_shape, Corrected, Outcome}
+use Rattle.codes.specs.Codewords.{distance, code_shape, work_shape, Corrected, Outcome, Correction}
 use Rattle.codes.proofs.Shapes.{code_sizes}
 use Rattle.codes.proofs.Words.{unique}
-use Rattle.reception.specs.Correcting.{Near, EveryWordCorrected}
+use Rattle.codes.specs.Correcting.{Near, Corrects}
 
 module _ {E S : Type 0} {f : Operations E} (l : Laws f) (mean : S → E) (checks : ℕ) (before after : List S) where
   -- at most one codeword is near
@@ -51,8 +51,9 @@ module _ {E S : Type 0} {f : Operations E} (l : Laws f) (mean : S → E) (checks
   kept_answer (Err refusal) w = kept_same w.1.same
 
 -- whatever correcting answers of a word, this is true of it
-pub every_word_corrected : {E S : Type 0} {f : Operations E} → Laws f → (mean : S → E) → EveryWordCorrected f mean
-every_word_corrected {E} {S} {f} l mean checks before after work_before work_after answer correction = record {
+pub corrects : {E S : Type 0} {f : Operations E} → Laws f → (mean : S → E) (checks : ℕ) (before after work_before work_after : List S) (answer : Result ℕ Refusal)
+    → Correction f mean checks before after work_before work_after answer → Corrects f mean checks before after work_before work_after answer
+corrects {E} {S} {f} l mean checks before after work_before work_after answer correction = record {
   shape = λ e. decided e;
   cleared = λ e. (decided e).0;
   decided = λ e. near_or_none l mean checks before after answer (decided e).1;
