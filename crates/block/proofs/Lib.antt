@@ -17,8 +17,10 @@ pub mod Worked
 pub mod UnitsFit
 pub mod Untouched
 pub mod HeaderParts
+pub mod SuperFrameBytes
 pub mod OpeningSealed
-pub mod SealingHeld
 pub mod PlacingAll
 pub mod Copying
+pub mod CallByCall
 pub mod MakingWhole
+pub mod SealingHeld

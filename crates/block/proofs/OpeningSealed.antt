@@ -1,9 +1,9 @@
--- Opening what was sealed: a super frame reads as the settings and units that it was made of.
-use Rattle.std.proofs.Common.{◌≡◌, ℕ, zero, suc, ◌+◌, ◌-◌, ◌*◌, ◌/◌, ◌%◌, ◌<◌, ◌≤◌, Bool, true, false, not, ◌||◌, eqb, List, [], ◌∷◌, ◌++◌, length, get_or, take, drop, None, Ok, sym, refl, ap, ◌∙◌, subst, ap₂, ⊎_elim, append_assoc, add-zero, arith, length-append, length-drop, take-append-drop, drop_at, drop-drop, eq-eqb, eqb-true}
+-- Opening what was sealed: a super frame of units of bytes is bytes, and reads as the settings and units that it was made of.
+use Rattle.std.proofs.Common.{◌≡◌, ℕ, zero, suc, ◌+◌, ◌-◌, ◌*◌, ◌/◌, ◌%◌, ◌<◌, ◌≤◌, Bool, true, false, not, ◌||◌, eqb, List, [], ◌∷◌, ◌++◌, length, get_or, take, drop, All, None, Ok, sym, refl, ap, ◌∙◌, subst, ap₂, ⊎_elim, append_assoc, add-zero, arith, length-append, length-drop, take-append-drop, drop_at, drop-drop, eq-eqb, eqb-true}
 use Rattle.std.proofs.lemmas.Bool.{cases_lt}
 use Rattle.std.proofs.lemmas.List.{take-append-le, drop-append-le, take_all, get_or_past, get_or-drop, get_or-take}
 use Rattle.std.proofs.lemmas.List.FromFn.{fill_by_all}
-use Rattle.interleaver.specs.Rows.{BlockRepaired, AllCodewords}
+use Rattle.interleaver.specs.Rows.{BlockRepaired, AreBytes, AllCodewords}
 use Rattle.interleaver.proofs.Repairing.{repaired_once}
 use Rattle.block.specs.declared.header.Header.{Header}
 use Rattle.block.specs.declared.parameters.Layout.{Layout}
@@ -17,11 +17,12 @@ use Rattle.block.specs.Places.{unit_in, units_in}
 use Rattle.block.specs.Laws.{untouched, ReadsAs, OpeningWhatWasSealed}
 use Rattle.block.specs.steps.Reading.{Fits}
 use Rattle.block.proofs.HeaderParts.{length-super_frame_data, length-header, aligned-odd, crowded-none, start_packed, Right, header-right}
-use Rattle.block.proofs.PackedStarts.{length-packed, unsigned-packed, unsigned-packed_odd}
-use Rattle.block.proofs.ParameterBytes.{parameters-parameter_byte, right-parameter_byte}
-use Rattle.block.proofs.RowChecks.{all_codewords, length-all_row_checks}
+use Rattle.block.proofs.PackedStarts.{length-packed, packed_lt, unsigned-packed, unsigned-packed_odd}
+use Rattle.block.proofs.ParameterBytes.{parameters-parameter_byte, right-parameter_byte, parameter_byte_lt}
+use Rattle.block.proofs.RowChecks.{all_codewords, length-all_row_checks, bytes-all_row_checks}
 use Rattle.block.proofs.Starts.{layout_fits, start_at, start_last}
-use Rattle.block.proofs.UnitStarts.{length-unit_starts, get_or-unit_starts, length-checked_units_more, length-checked_units_append, unit_found, check_found, word-two_bytes}
+use Rattle.block.proofs.SuperFrameBytes.{bytes-cons, bytes-append, bytes-checked_units}
+use Rattle.block.proofs.UnitStarts.{two_bytes_lt, fire_word_lt, length-unit_starts, get_or-unit_starts, length-checked_units_more, length-checked_units_append, unit_found, check_found, word-two_bytes}
 use Rattle.block.proofs.Untouched.{repaired-untouched}
 
 -- bytes within the first of two lists
@@ -177,17 +178,18 @@ module _ (s : Settings) (units : List (List ℕ)) (f : Fill s units) where
 
     -- the block is read
     reads_as : parameters p ≡ s.parameters → right p ≡ true → BlockRepaired s.size 120 10 block block untouched → AllCodewords s.size 120 10 block
-        → length block ≡ 120 * s.size → fire_fits block ≡ true → ReadsAs s units block
-    reads_as e ok repaired codewords long fire = record {
+        → length block ≡ 120 * s.size → fire_fits block ≡ true → AreBytes block → ReadsAs s units block
+    reads_as e ok repaired codewords long fire bytes = record {
+      bytes = bytes;
       repaired = repaired;
-      once = λ after repair bytes changed rows. repaired_once s.size 120 10 refl block after block repair untouched (omega (arith, long)) changed bytes rows repaired;
+      once = λ after repair changed rows. repaired_once s.size 120 10 refl block after block repair untouched (omega (arith, long)) changed bytes rows repaired;
       h = said;
       opened = opened;
       parameters = refl;
       count = sym f.count;
       held = units_in-places;
       good = good;
-      flawless = λ bytes. record {
+      flawless = record {
         legible = record { repaired = block; repair = untouched; bytes = bytes; rows = repaired; right = opened };
         codewords = codewords;
         good = good;
@@ -257,14 +259,29 @@ module _ (s : Settings) (units : List (List ℕ)) (f : Fill s units) where
       long : 9 ≤ length (behind_fire s units)
       long = omega (arith, length-frame, s.in_range)
 
-  reads : ReadsAs s units (superframe s units)
-  reads =
+  bytes-whole : All AreBytes units → AreBytes whole
+  bytes-whole bytes =
+      let two = two_bytes_lt fire (fire_word_lt (take 9 (behind_fire s units))) in
+      bytes-cons (fire / 256) (fire % 256 ∷ p ∷ held) two.0
+      (bytes-cons (fire % 256) (p ∷ held) two.1
+      (bytes-cons p held (omega (arith, parameter_byte_lt s.parameters s.right))
+      (bytes-append (packed (digits others)) (checked_units units ++ checks) (packed_lt others others_lt)
+      (bytes-append (checked_units units) checks (bytes-checked_units units bytes) (bytes-all_row_checks s.size frame)))))
+    where
+      held : List ℕ
+      held = packed (digits others) ++ (checked_units units ++ checks)
+
+  pub superframe-bytes : All AreBytes units → AreBytes (superframe s units)
+  superframe-bytes bytes = subst AreBytes (sym superframe-whole) (bytes-whole bytes)
+
+  pub reads : AreBytes (superframe s units) → ReadsAs s units (superframe s units)
+  reads bytes =
       subst (ReadsAs s units) (sym superframe-whole)
       (reads_as (fire / 256) (fire % 256) p checks (parameters-parameter_byte s.parameters s.right) (right-parameter_byte s.parameters s.right)
-      (repaired-untouched s.size 120 10 whole refl codewords) codewords length-whole fire_fits-whole)
+      (repaired-untouched s.size 120 10 whole refl codewords) codewords length-whole fire_fits-whole (subst AreBytes superframe-whole bytes))
     where
       codewords : AllCodewords s.size 120 10 whole
       codewords = subst (AllCodewords s.size 120 10) data-whole (all_codewords s.size frame length-frame)
 
 pub opening_what_was_sealed : OpeningWhatWasSealed
-opening_what_was_sealed = reads
+opening_what_was_sealed s units bytes f = reads s units f (superframe-bytes s units f bytes)

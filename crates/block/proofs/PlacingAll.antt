@@ -10,8 +10,9 @@ use Rattle.block.specs.declared.writer.OpenWriter.{OpenWriter}
 use Rattle.block.specs.SuperFrames.{layout_for}
 use Rattle.block.specs.Places.{has_room}
 use Rattle.block.specs.Writing.{add_complaints, OneMore, all_fit, making_complaints}
-use Rattle.block.specs.steps.Writing.{PlacesAll}
+use Rattle.block.specs.steps.Writing.{Admits}
 use Rattle.block.proofs.Starts.{layout_fits}
+use Rattle.block.proofs.UnitsFit.{fill_from}
 
 module _ (s : Settings) (units : List (List ℕ)) where
   abbrev count : ℕ
@@ -64,18 +65,11 @@ module _ (s : Settings) (units : List (List ℕ)) where
   abbrev fits : Bool
   fits = all_fit capacity (layout_for s).header_length count units
 
-  pub placed_more : (done : ℕ) (w next : OpenWriter) → done < length units → length units ≤ count → PlacedTo done w
-      → first_refusal (add_complaints w (length (unit done))) ≡ None → OneMore w (length (unit done)) next → PlacedTo (done + 1) next
-  placed_more done w next h few p ok more = record {
-    settings = more.settings ∙ p.settings;
-    added = more.added ∙ ap (λ (n : ℕ). n + 1) p.added;
-    each = below_more (λ n. get_or next.starts (n + 1) 0 ≡ get_or next.starts n 0 + length (unit n) + 2) done
-        (λ n b. kept (n + 1) (omega arith) ∙ p.each n b ∙ ap (λ (start : ℕ). start + length (unit n) + 2) (sym (kept n (omega arith))))
-        (here ∙ ap (λ (start : ℕ). start + length (unit done) + 2) (sym (kept done (omega arith))));
-    fit =
-        p.fit ∙ next_decides done (get_or w.starts done 0) h ∙ ap (λ b. b && all_fit capacity (get_or w.starts done 0 + length (unit done) + 2) (count - done - 1) (drop (done + 1) units)) room
-        ∙ ap₂ (λ (start left : ℕ). all_fit capacity start left (drop (done + 1) units)) (sym here) (let e : count - done - 1 ≡ count - (done + 1) = omega arith in e);
-  }
+  -- a unit more sets the start behind it, and no other
+  pub one_more : (done : ℕ) (w next : OpenWriter) → done < count → PlacedTo done w → OneMore w (length (unit done)) next
+      → (get_or next.starts (done + 1) 0 ≡ get_or w.starts done 0 + length (unit done) + 2)
+      × ((n : ℕ) → n ≤ done → get_or next.starts n 0 ≡ get_or w.starts n 0)
+  one_more done w next h p more = (here, kept)
     where
       starts : next.starts ≡ set w.starts (done + 1) (get_or w.starts done 0 + length (unit done) + 2)
       starts = more.starts ∙ ap (λ (n : ℕ). set w.starts (n + 1) (get_or w.starts n 0 + length (unit done) + 2)) p.added
@@ -90,6 +84,23 @@ module _ (s : Settings) (units : List (List ℕ)) where
       kept n b =
           let other : n ≢ done + 1 = λ e. omega arith in
           ap (λ xs. get_or xs n 0) starts ∙ get_or-set_other w.starts (done + 1) n (get_or w.starts done 0 + length (unit done) + 2) 0 other
+
+  pub placed_more : (done : ℕ) (w next : OpenWriter) → done < length units → length units ≤ count → PlacedTo done w
+      → first_refusal (add_complaints w (length (unit done))) ≡ None → OneMore w (length (unit done)) next → PlacedTo (done + 1) next
+  placed_more done w next h few p ok more = record {
+    settings = more.settings ∙ p.settings;
+    added = more.added ∙ ap (λ (n : ℕ). n + 1) p.added;
+    each = below_more (λ n. get_or next.starts (n + 1) 0 ≡ get_or next.starts n 0 + length (unit n) + 2) done
+        (λ n b. now.1 (n + 1) (omega arith) ∙ p.each n b ∙ ap (λ (start : ℕ). start + length (unit n) + 2) (sym (now.1 n (omega arith))))
+        (now.0 ∙ ap (λ (start : ℕ). start + length (unit done) + 2) (sym (now.1 done (omega arith))));
+    fit =
+        p.fit ∙ next_decides done (get_or w.starts done 0) h ∙ ap (λ b. b && all_fit capacity (get_or w.starts done 0 + length (unit done) + 2) (count - done - 1) (drop (done + 1) units)) room
+        ∙ ap₂ (λ (start left : ℕ). all_fit capacity start left (drop (done + 1) units)) (sym now.0) (let e : count - done - 1 ≡ count - (done + 1) = omega arith in e);
+  }
+    where
+      now : (get_or next.starts (done + 1) 0 ≡ get_or w.starts done 0 + length (unit done) + 2)
+          × ((n : ℕ) → n ≤ done → get_or next.starts n 0 ≡ get_or w.starts n 0)
+      now = one_more done w next (omega arith) p more
 
       room : has_room capacity (get_or w.starts done 0) (length (unit done)) (count - done - 1) ≡ true
       room = by (has_room capacity (get_or w.starts done 0) (length (unit done)) (count - done - 1)) (sym (complaints done w (omega arith) p) ∙ ok)
@@ -119,16 +130,10 @@ module _ (s : Settings) (units : List (List ℕ)) where
       ap₂ (λ many fit. decided many fit (ltb (length units) count)) (le-ltb count (length units) (omega (arith, p.added))) (all_fit-placed w p)
       ∙ ap (decided false true) (lt-ltb (length units) count (omega (arith, p.added)))
 
-  pub placed_all : (w : OpenWriter) → PlacedTo (length units) w → length units ≤ count → count ≤ w.added → PlacesAll s units (Ok w)
-  placed_all w p few all = (
-    ap₂ (λ many fit. decided many fit (ltb (length units) count)) (le-ltb count (length units) few) (all_fit-placed w p)
-        ∙ ap (decided false true) (le-ltb (length units) count (omega (arith, p.added))),
-    (
-      p.settings,
-      record {
-        whole = omega (arith, p.added, ap (λ t. (layout_for t).units) p.settings);
-        count = p.added;
-        each = λ n h. p.each n (omega (arith, p.added));
-      },
-    ),
-  )
+  pub placed_all : (w : OpenWriter) → PlacedTo (length units) w → length units ≤ count → count ≤ w.added → Admits s units (Ok tt)
+  placed_all w p few all = (none, fill_from s units none)
+    where
+      none : first_refusal (making_complaints s units) ≡ None
+      none =
+          ap₂ (λ many fit. decided many fit (ltb (length units) count)) (le-ltb count (length units) few) (all_fit-placed w p)
+          ∙ ap (decided false true) (le-ltb (length units) count (omega (arith, p.added)))

@@ -22,8 +22,9 @@ use Rattle.block.specs.Layouts.{layout, parameters}
 use Rattle.block.specs.Headers.{starts, layout_of, written, header, unit_count, check_fits, Tiles}
 use Rattle.block.specs.SuperFrames.{settings_complaints, two_bytes, checked_units, unit_starts, digits, packed, parameter_byte, all_row_checks, superframe, Fill}
 use Rattle.block.specs.Places.{unit_in, units_in}
-use Rattle.block.specs.Laws.{Flawless, MakesAgain, SealingWhatWasHeld}
+use Rattle.block.specs.Laws.{Flawless, CallsMake, MakesAgain, SealingWhatWasHeld}
 use Rattle.block.specs.steps.Reading.{Fits}
+use Rattle.block.proofs.CallByCall.{calls_make}
 use Rattle.block.proofs.HeaderParts.{length-header, aligned-odd, start_packed, Right, right_from}
 use Rattle.block.proofs.PackedStarts.{numbers, packed-numbers}
 use Rattle.block.proofs.ParameterBytes.{parameter_byte-parameters, sendable-parameters}
@@ -189,6 +190,9 @@ module _ (size : ℕ) (block : List ℕ) (bytes : AreBytes block) (right : Right
     accepted = accepted;
     made = λ s e q. first_refusal-making_complaints s units (fills_a_frame s e q);
     same = superframe-units;
+    by_calls =
+        λ s e q begun buffer b long. subst (CallsMake units begun buffer) (superframe-units s e q)
+        (calls_make s begun buffer b (omega (arith, long, e)) units (fills_a_frame s e q));
   }
 
 -- a flawless block is repaired to itself

@@ -1,12 +1,13 @@
 -- The worked examples: each is computed, but that no other codeword is near the corrected row, which the minimum distance shows.
-use Rattle.std.proofs.Common.{◌≡◌, ℕ, zero, suc, ◌*◌, ◌<◌, ◌≤◌, Bool, true, ◌&&◌, T, List, [], ◌∷◌, length, get_or, sym, refl, ap, subst, ◌∙◌, ltb, lit<, lit≤, ⊎_elim, arith}
+use Rattle.std.proofs.Common.{◌≡◌, ℕ, zero, suc, ◌+◌, ◌-◌, ◌*◌, ◌<◌, ◌≤◌, Bool, true, ◌&&◌, T, List, [], ◌∷◌, ◌++◌, length, get_or, take, drop, take_at, length-append, sym, refl, ap, subst, ◌∙◌, ltb, lit<, lit≤, ⊎_elim, arith}
 use Rattle.std.proofs.lemmas.Bool.{cases_lt}
+use Rattle.std.proofs.lemmas.List.{take-map}
 use Rattle.gf.specs.Theory.{pow}
 use Rattle.gf.specs.Bits.{Bits, bits, number, zeros, plus, equal, only, shift, out, times_x, times_row, times}
 use Rattle.gf.specs.Fields.{low2, low16, low256, gf256}
 use Rattle.gf.specs.laws.FieldLaws.{laws256}
 use Rattle.gf.specs.laws.Tests.{and_left, and_right}
-use Rattle.codes.specs.Codewords.{Codeword, distance, Corrected}
+use Rattle.codes.specs.Codewords.{Codeword, checks_of, distance, Filled, Corrected}
 use Rattle.codes.specs.Polynomials as polynomials
 use Rattle.codes.proofs.Values.{value-zeros}
 use Rattle.codes.proofs.Words.{syndromes_decide, unique}
@@ -15,7 +16,7 @@ use Rattle.interleaver.proofs.Bytes.{same_byte}
 use Rattle.block.specs.Bytes.{unsigned}
 use Rattle.block.specs.Checks.{byte_bits}
 use Rattle.block.specs.Headers.{starts}
-use Rattle.block.specs.Examples.{all_zeros, five_wrong, WorkedExamples, ExamplesHold}
+use Rattle.block.specs.Examples.{all_zeros, five_wrong, zeros_and_one, checks_of_one, WorkedExamples, ExamplesHold}
 
 -- whether all of them are bytes
 abbrev are_bytes : List ℕ → Bool
@@ -76,13 +77,30 @@ corrected = record {
   only = only_zeros;
 }
 
+-- filling writes the checks of the data
+filled : (behind after : List ℕ) → length behind ≡ 10 → Filled gf256 (bits 8) 10 (zeros_and_one ++ behind) after
+    → drop 110 (elements after) ≡ checks_of gf256 10 (elements zeros_and_one)
+filled behind after e m =
+    ap (λ (n : ℕ). drop (n - 10) (elements after)) (sym long) ∙ m.checks
+    ∙ ap (checks_of gf256 10)
+    (ap (λ (n : ℕ). take (n - 10) (elements (zeros_and_one ++ behind))) long ∙ take-map (bits 8) 110 (zeros_and_one ++ behind)
+    ∙ ap elements (take_at zeros_and_one behind 110 refl))
+  where
+    long : length (zeros_and_one ++ behind) ≡ 120
+    long = length-append zeros_and_one behind ∙ ap (λ (n : ℕ). 110 + n) e
+
+checks256 : checks_of gf256 10 (elements zeros_and_one) ≡ elements checks_of_one
+unfolding bits low2 low16 low256 number zeros plus only shift out times_x times_row times
+checks256 = refl
+
 pub worked_examples : WorkedExamples
 unfolding bits low2 low16 low256 number zeros plus only shift out times_x times_row times byte_bits unsigned starts
 worked_examples = record {
   product256 = refl;
   product16 = refl;
   checks16 = refl;
-  checks256 = refl;
+  checks256 = checks256;
+  filled256 = λ behind after e m. filled behind after e m ∙ checks256;
   corrected = corrected;
   fire = refl;
   check_of_ones = refl;

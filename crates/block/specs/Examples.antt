@@ -1,10 +1,10 @@
 -- Worked examples that the trade knows, in the words of the definitions.
-use Rattle.std.specs.Prelude.{◌≡◌, ℕ, true, List, [], ◌∷◌, ◌++◌, replicate, Some, Err}
+use Rattle.std.specs.Prelude.{◌≡◌, ℕ, true, List, [], ◌∷◌, ◌++◌, replicate, length, drop, Some, Err}
 use Rattle.gf.specs.declared.refusal.Refusal.TheVariants as refusals
 use Rattle.gf.specs.Bits.{bits}
 use Rattle.gf.specs.Fields.{gf16, gf256}
 use Rattle.gf.specs.Refusals.{entry}
-use Rattle.codes.specs.Codewords.{checks_of}
+use Rattle.codes.specs.Codewords.{checks_of, Filled}
 use Rattle.interleaver.specs.Rows.{elements, RowRepaired, AllCodewords}
 use Rattle.block.specs.declared.fault.HeaderFault.TheVariants as faults
 use Rattle.block.specs.Checks.{fire_word, unit_check}
@@ -19,6 +19,14 @@ all_zeros = replicate 120 0
 abbrev pub five_wrong : List ℕ
 five_wrong = replicate 109 0 ++ (0x01 ∷ 0xD8 ∷ 0xC2 ∷ 0x9F ∷ 0x6F ∷ replicate 6 0)
 
+-- the data of a row that ends in 01 hex, and their checks
+
+abbrev pub zeros_and_one : List ℕ
+zeros_and_one = replicate 109 0 ++ (0x01 ∷ [])
+
+abbrev pub checks_of_one : List ℕ
+checks_of_one = 0xD8 ∷ 0xC2 ∷ 0x9F ∷ 0x6F ∷ 0xC7 ∷ 0x5E ∷ 0x5F ∷ 0x71 ∷ 0x9D ∷ 0xC1 ∷ []
+
 pub record WorkedExamples : Type 0 where
   -- in the field of 256 elements 80 hex times 2 is 1D hex
   pub product256 : gf256.mul (bits 8 0x80) (bits 8 2) ≡ bits 8 0x1D
@@ -27,9 +35,10 @@ pub record WorkedExamples : Type 0 where
   -- in that field, with two checks, the data 1 has the checks 3, 2
   pub checks16 : checks_of gf16 2 (bits 4 1 ∷ []) ≡ bits 4 3 ∷ bits 4 2 ∷ []
   -- the ten checks of a row whose data are 109 zeros and 01 hex
-  pub checks256 :
-      checks_of gf256 10 (elements (replicate 109 0 ++ (0x01 ∷ [])))
-      ≡ elements (0xD8 ∷ 0xC2 ∷ 0x9F ∷ 0x6F ∷ 0xC7 ∷ 0x5E ∷ 0x5F ∷ 0x71 ∷ 0x9D ∷ 0xC1 ∷ [])
+  pub checks256 : checks_of gf256 10 (elements zeros_and_one) ≡ elements checks_of_one
+  -- so these are what filling the checks of that row writes, whatever stood in their place
+  pub filled256 : (behind after : List ℕ) → length behind ≡ 10 → Filled gf256 (bits 8) 10 (zeros_and_one ++ behind) after
+      → drop 110 (elements after) ≡ elements checks_of_one
   -- five wrong bytes in a row of zeros are corrected
   pub corrected : RowRepaired 10 five_wrong all_zeros (Some 5)
   -- the Fire word of eight zeros and 01 hex

@@ -1,5 +1,5 @@
 -- What writing a super frame answers, call by call.
-use Rattle.std.specs.Prelude.{◌≡◌, ℕ, ◌+◌, ◌-◌, ◌*◌, Bool, true, not, ◌&&◌, List, [], ◌∷◌, ◌++◌, length, replicate, take, drop, Result, ◌==◌, nat_le, nat_lt, slice_index, slice_set, slice_range}
+use Rattle.std.specs.Prelude.{◌≡◌, ℕ, ◌+◌, ◌-◌, ◌*◌, Bool, true, not, ◌&&◌, List, [], ◌∷◌, ◌++◌, length, replicate, take, drop, Ok, Result, ◌==◌, nat_le, nat_lt, slice_index, slice_set, slice_range}
 use Rattle.gf.specs.declared.refusal.Refusal.{Refusal}
 use Rattle.gf.specs.declared.refusal.Refusal.TheVariants.{UnitLength, Overfull, Unfinished, Index}
 use Rattle.gf.specs.Refusals.{Answers, Performs}
@@ -37,6 +37,13 @@ Adds w after unit before block answer =
     (λ _. OneMore w (length unit) after × (block ≡ take start before ++ (unit ++ drop (start + length unit) before)))
     ((after ≡ w) × (block ≡ before)) answer
 
+-- Units are added one by one, each by a call of `add` that is not refused, and nothing else is written to the buffer: first the writer and
+-- the buffer as they were, and behind the units what they are then.
+abbrev pub AddsAll : OpenWriter → List ℕ → List (List ℕ) → OpenWriter → List ℕ → Type 0
+AddsAll w before [] after block = (after ≡ w) × (block ≡ before)
+AddsAll w before (unit ∷ units) after block =
+    (next : OpenWriter) × (held : List ℕ) × Adds w next unit before held (Ok tt) × AddsAll next held units after block
+
 -- the refusals of sealing, each with its condition: the buffer has another length; or units are missing
 abbrev pub sealing_complaints : OpenWriter → List ℕ → List (Bool × Refusal)
 sealing_complaints w block =
@@ -48,6 +55,15 @@ Seals w before block answer =
     let units = units_in w.starts w.added before in
     Performs (sealing_complaints w before)
     (λ s. (s.size ≡ w.settings.size) × Fill w.settings units × (block ≡ superframe w.settings units)) (block ≡ before) answer
+
+-- The calls of a writer that begins make this of the buffer: the units are added one by one, and then it is sealed.
+pub record MadeByCalls (s : Settings) (units : List (List ℕ)) (before block : List ℕ) (sealed : SealedWriter) : Type 0 where
+  pub begun : OpenWriter
+  pub begins : Begins s begun
+  pub whole : OpenWriter
+  pub held : List ℕ
+  pub added : AddsAll begun before units whole held
+  pub seals : Seals whole held block (Ok sealed)
 
 -- Frame n is a fifth of the buffer; or the first refusal is answered.
 abbrev pub HandsOut : SealedWriter → List ℕ → ℕ → Result (List ℕ) Refusal → Type 0

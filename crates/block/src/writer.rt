@@ -35,7 +35,7 @@ pub struct SealedWriter {
 
 impl OpenWriter {
     ghost use Rattle.block.specs.Writing.{Begins, add_complaints, OneMore, Adds, sealing_complaints, Seals};
-    ghost use Rattle.block.specs.steps.Writing.{WholeAndSized, with_header, with_unit_checks, HasPlaces, PlacesAll};
+    ghost use Rattle.block.specs.steps.Writing.{WholeAndSized, with_header, with_unit_checks, Admits};
 
     // An open super frame with no units in it.
     pub fn new(settings: Settings) -> OpenWriter
@@ -78,12 +78,9 @@ impl OpenWriter {
         Ok(start)
     }
 
-    // A writer in which the units have their places, if they fill the super frame.
-    pub(crate) fn with_places_for(
-        settings: Settings,
-        units: &[&[u8]],
-    ) -> Result<OpenWriter, Refusal>
-        ensures { PlacesAll settings (map (λ unit. unit.now) units.now) result }
+    // Whether the units fill the super frame, so that each can be added in its order.
+    pub(crate) fn check_units(settings: Settings, units: &[&[u8]]) -> Result<(), Refusal>
+        ensures { Admits settings (map (λ unit. unit.now) units.now) result }
     {
         let mut writer = OpenWriter::new(settings);
         // Before the units are looked at one by one, since this refusal comes before that of a length.
@@ -96,19 +93,7 @@ impl OpenWriter {
         if writer.added < writer.layout().units {
             return Err(Refusal::Unfinished);
         }
-        Ok(writer)
-    }
-
-    // Copies the units to their places.
-    pub(crate) fn copy_units(&self, units: &[&[u8]], block: &mut [u8])
-        requires places { HasPlaces self.now (map (λ unit. unit.now) units.now) }
-        requires sized { length block.old ≡ 120 * self.now.settings.size }
-        ensures { units_in self.now.starts self.now.added block.new ≡ map (λ unit. unit.now) units.now }
-    {
-        for (n, unit) in units.iter().enumerate() {
-            let start = usize::from(self.starts[n]);
-            block[start..start + unit.len()].copy_from_slice(unit);
-        }
+        Ok(())
     }
 
     // Adds a unit: copies its bytes into the block, behind the units that are in.
@@ -159,7 +144,7 @@ impl OpenWriter {
     }
 
     // Writes all but the units.
-    pub(crate) fn write_all(&self, block: &mut [u8]) -> SealedWriter
+    fn write_all(&self, block: &mut [u8]) -> SealedWriter
         requires { WholeAndSized self.now block.old }
         ensures size { result.size ≡ self.now.settings.size }
         ensures block { block.new ≡ superframe self.now.settings (units_in self.now.starts self.now.added block.old) }

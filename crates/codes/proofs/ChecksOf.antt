@@ -1,11 +1,10 @@
 -- The checks of data symbols: with them the data make a codeword, and no other checks do.
-use Rattle.std.proofs.Common.{◌≡◌, ℕ, ◌-◌, ◌≤◌, List, ◌++◌, map, length, take, sym, ap, ◌∙◌, subst, arith, length-append, length-take-le, take_at}
+use Rattle.std.proofs.Common.{◌≡◌, ℕ, ◌-◌, ◌≤◌, List, ◌++◌, length, take, sym, ap, ◌∙◌, subst, arith, length-append, length-take-le, take_at}
 use lib.ListN.{length-map}
-use Rattle.std.proofs.lemmas.List.{take-map}
 use Rattle.gf.specs.Theory.{Operations, Laws}
 use Rattle.codes.specs.Polynomials.{zeros}
 use Rattle.codes.specs.Division.{remainder_of, Remainder}
-use Rattle.codes.specs.Codewords.{generator, Codeword, checks_of, Filled}
+use Rattle.codes.specs.Codewords.{generator, Codeword, checks_of}
 use Rattle.codes.proofs.LongDivision.{length-remainder, remainder}
 use Rattle.codes.proofs.Words.{generator-cons}
 use Rattle.codes.proofs.Filling.{filled_codeword, same_data}
@@ -39,14 +38,3 @@ module _ {E : Type 0} {f : Operations E} (l : Laws f) where
       same_data l r w (symbols ++ checks_of f r symbols)
       (sym (length-append symbols (checks_of f r symbols) ∙ omega (arith, sized, length-checks_of r symbols))) h n
       (sym (take_at symbols (checks_of f r symbols) (length w - r) sized)) c (codeword-checks_of r symbols (omega arith))
-
-  -- filling writes the checks of the data
-  pub filled-checks_of : {S : Type 0} (mean : S → E) (r : ℕ) (before after : List S) → r ≤ length before → length before ≤ f.reach
-      → Filled f mean r before after
-      → map mean after ≡ take (length before - r) (map mean before) ++ checks_of f r (take (length before - r) (map mean before))
-  filled-checks_of mean r before after h n m =
-      let long = length-map after mean ∙ m.long in
-      codeword_is r (map mean after) (omega (arith, long)) (omega (arith, long)) m.codeword
-      ∙ ap (λ symbols. symbols ++ checks_of f r symbols)
-      (ap (λ (k : ℕ). take (k - r) (map mean after)) long ∙ take-map mean (length before - r) after ∙ ap (map mean) m.data_kept
-      ∙ sym (take-map mean (length before - r) before))

@@ -1,5 +1,5 @@
 -- The checks that a division gives: they make a codeword, and no other codeword has these data.
-use Rattle.std.proofs.Common.{◌≡◌, ℕ, zero, suc, ◌+◌, ◌-◌, ◌<◌, ◌≤◌, Bool, true, false, cond, List, [], ◌∷◌, ◌++◌, map, length, get_or, take, drop, sym, refl, ap, ◌∙◌, subst, ap₂, append-nil, arith, length-append, length-drop, length-take-le, take_at}
+use Rattle.std.proofs.Common.{◌≡◌, ℕ, zero, suc, ◌+◌, ◌-◌, ◌<◌, ◌≤◌, Bool, true, false, cond, List, [], ◌∷◌, ◌++◌, map, length, get_or, take, drop, sym, refl, ap, ◌∙◌, subst, ap₂, append-nil, arith, length-append, length-drop, length-take-le, take_at, drop_at}
 use mathlib.Core.List.{tail, map-append}
 use lib.ListN.{length-map, length-replicate}
 use borrow.Author.Tests.{clash}
@@ -7,7 +7,7 @@ use borrow.Rule.Slice.PartMut.{put_mid, take_put}
 use Rattle.std.proofs.lemmas.List.{drop_all, take-map}
 use Rattle.gf.specs.Theory.{Operations, Laws, pow}
 use Rattle.codes.specs.Polynomials.{zeros, negs, plus, times}
-use Rattle.codes.specs.Division.{Remainder}
+use Rattle.codes.specs.Division.{remainder_of, Remainder}
 use Rattle.codes.specs.Codewords.{generator, Codeword, syndrome, distance, Filled}
 use Rattle.codes.proofs.Elements.{zero-add, mul-zero}
 use Rattle.codes.proofs.Values.{value-append, value-zeros, value-negs, value-plus, value-times, same_values}
@@ -74,6 +74,9 @@ module _ {E : Type 0} {f : Operations E} (l : Laws f) where
   filled {S = S} mean r before cleared rest written h n e none m negative = record {
     long = long;
     data_kept = kept;
+    checks =
+        ap (drop (length before - r)) whole ∙ drop_at (map mean symbols) (negs f (map mean rest)) (length before - r) (length-map symbols mean ∙ data_long)
+        ∙ ap (negs f) (m.value ∙ ap (λ w. remainder_of f w (generator f r)) (padded ∙ ap (λ w. w ++ zeros f r) (sym (take-map mean (length before - r) before))));
     codeword = codeword;
     only = λ other sized c t. same_data r other (map mean after) (sized ∙ sym (length-map after mean ∙ long)) (omega arith) (omega arith)
         (ap (λ (k : ℕ). take (k - r) other) sized ∙ t ∙ take-map mean (length before - r) before
@@ -98,11 +101,18 @@ module _ {E : Type 0} {f : Operations E} (l : Laws f) where
       kept : take (length before - r) after ≡ symbols
       kept = take_at symbols written (length before - r) data_long
 
+      -- what is divided
+      padded : map mean (symbols ++ cleared) ≡ map mean symbols ++ zeros f r
+      padded = map-append mean symbols cleared ∙ ap (λ w. map mean symbols ++ w) none
+
+      whole : map mean after ≡ map mean symbols ++ negs f (map mean rest)
+      whole = map-append mean symbols written ∙ ap (λ w. map mean symbols ++ w) negative
+
       codeword : Codeword f r (map mean after)
       codeword =
-          subst (Codeword f r) (sym (map-append mean symbols written ∙ ap (λ w. map mean symbols ++ w) negative))
+          subst (Codeword f r) (sym whole)
           (filled_codeword r (map mean symbols) (map mean rest) (omega arith) (length-map rest mean ∙ e)
-          (subst (λ w. Remainder f w (generator f r) (map mean rest)) (map-append mean symbols cleared ∙ ap (λ w. map mean symbols ++ w) none) m))
+          (subst (λ w. Remainder f w (generator f r) (map mean rest)) padded m))
 
   -- the same, as the end of the word is written twice in place
   pub filled_in_place : {S : Type 0} (mean : S → E) (r k m : ℕ) (before cleared rest written : List S) (divisor : List E)

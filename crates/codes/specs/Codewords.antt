@@ -1,5 +1,5 @@
 -- The check code over a field: its codewords, how far they are apart, and what filling checks and correcting answer.
-use Rattle.std.specs.Prelude.{◌≡◌, ℕ, zero, suc, ◌-◌, ◌*◌, ◌<◌, ◌≤◌, Bool, true, cond, ◌&&◌, ◌↔◌, List, [], ◌∷◌, ◌++◌, map, length, take, Ok, Err, MatchBool, Result, ◌==◌, ◌≢◌, nat_le, slice_index_or}
+use Rattle.std.specs.Prelude.{◌≡◌, ℕ, zero, suc, ◌-◌, ◌*◌, ◌<◌, ◌≤◌, Bool, true, cond, ◌&&◌, ◌↔◌, List, [], ◌∷◌, ◌++◌, map, length, take, drop, Ok, Err, MatchBool, Result, ◌==◌, ◌≢◌, nat_le, slice_index_or}
 use Rattle.gf.specs.declared.refusal.Refusal.{Refusal}
 use Rattle.gf.specs.declared.refusal.Refusal.TheVariants.{Shape, BeyondRepair}
 use Rattle.gf.specs.Theory.{Operations, pow}
@@ -78,10 +78,12 @@ module _ {E : Type 0} (f : Operations E) where
   work_shape work = length work == 512 && all_zero work
 
   module _ {S : Type 0} (mean : S → E) where
-    -- Only the last r symbols are written, so that the word is a codeword, and no other codeword has these data symbols.
+    -- Only the last r symbols are written: they are the checks of the data symbols before them. So the word is a codeword, and no other
+    -- codeword has these data symbols.
     pub record Filled (r : ℕ) (before after : List S) : Type 0 where
       pub long : length after ≡ length before
       pub data_kept : take (length before - r) after ≡ take (length before - r) before
+      pub checks : drop (length before - r) (map mean after) ≡ checks_of r (take (length before - r) (map mean before))
       pub codeword : Codeword r (map mean after)
       pub only : (other : List E) → length other ≡ length before → Codeword r other
           → take (length before - r) other ≡ take (length before - r) (map mean before) → other ≡ map mean after

@@ -82,7 +82,7 @@ fn correct_word<F: Field>(word: &mut [F], checks: usize, work: &mut [F]) -> Resu
     answer
 }
 
-// Writes the last symbols, as many as there are checks, so that the word is a codeword. The others stay as they are. `work` is
+// Writes the checks of the other symbols over the last ones, so that the word is a codeword. The others stay as they are. `work` is
 // `WORK_SYMBOLS` symbols that mean zero, before and after. A word, a number of checks or a buffer that is not as admitted is refused, and
 // nothing is changed.
 pub fn encode<F: Field>(word: &mut [F], checks: usize, work: &mut [F]) -> Result<(), Refusal>

@@ -1,4 +1,6 @@
 // Worked examples of the check code: checks, corrections, and shapes that are refused.
+use crate::modulo13::Modulo13;
+use crate::small_field::SmallField;
 use codes::{WORK_SYMBOLS, correct, encode};
 use gf::{Field, Gf2, Gf16, Gf256, Refusal};
 use std::fmt;
@@ -47,20 +49,35 @@ impl Shape {
     }
 }
 
-// Not one function with `print_row_checks`, since each prints its symbols in another way.
-fn print_nibble_checks(rt: &HostRuntime) -> anyhow::Result<()> {
-    let mut work = [Gf16(0); WORK_SYMBOLS];
-    let mut word = [Gf16(1), Gf16(0), Gf16(0)];
-    match encode(&mut word, 2, &mut work) {
+// Fills the checks behind the data, and prints the numbers of both.
+fn print_checks<F: SmallField>(
+    rt: &HostRuntime,
+    field: &str,
+    data: &[usize],
+    checks: usize,
+) -> anyhow::Result<()> {
+    let mut work = vec![in rt.alloc(); F::zero(); WORK_SYMBOLS]?;
+    let mut word = vec![in rt.alloc(); F::zero(); data.len().saturating_add(checks)]?;
+    print!(rt; "{field}: data")?;
+    for (symbol, number) in word.iter_mut().zip(data) {
+        *symbol = F::numbered(*number);
+        print!(rt; " {number}")?;
+    }
+    match encode(&mut word, checks, &mut work) {
         Ok(()) => {
-            let [_, Gf16(first), Gf16(second)] = word;
-            println!(rt; "Gf16: data 1 has the checks {first} {second}")?;
+            print!(rt; " has the checks")?;
+            for check in word.iter().skip(data.len()) {
+                let number = check.byte() as usize % F::order();
+                print!(rt; " {number}")?;
+            }
+            println!(rt)?;
         }
-        Err(refusal) => println!(rt; "Gf16: data 1: {refusal}")?,
+        Err(refusal) => println!(rt; ": {refusal}")?,
     }
     Ok(())
 }
 
+// Not one function with `print_checks`, since a row is printed in hexadecimal, and without its data.
 fn print_row_checks(rt: &HostRuntime) -> anyhow::Result<()> {
     let mut work = [Gf256(0); WORK_SYMBOLS];
     let mut row = [Gf256(0); 120];
@@ -161,6 +178,8 @@ fn print_byte_shapes(rt: &HostRuntime) -> anyhow::Result<()> {
 fn print_smaller_shapes(rt: &HostRuntime) -> anyhow::Result<()> {
     let nibbles = [Shape::new(15, 2, 512), Shape::new(16, 2, 512)];
     print_shapes::<Gf16>(rt, "Gf16", &nibbles)?;
+    let residues = [Shape::new(12, 4, 512), Shape::new(13, 4, 512)];
+    print_shapes::<Modulo13>(rt, "Modulo13", &residues)?;
     let bits = [
         Shape::new(1, 1, 512),
         Shape::new(2, 1, 512),
@@ -182,7 +201,8 @@ fn print_work(rt: &HostRuntime) -> anyhow::Result<()> {
 }
 
 pub fn print_all(rt: &HostRuntime) -> anyhow::Result<()> {
-    print_nibble_checks(rt)?;
+    print_checks::<Gf16>(rt, "Gf16", &[1], 2)?;
+    print_checks::<Modulo13>(rt, "Modulo13", &[3, 8, 4, 2, 4, 4, 2, 5], 4)?;
     print_row_checks(rt)?;
     print_corrections(rt)?;
     print_byte_shapes(rt)?;

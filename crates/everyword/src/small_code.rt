@@ -1,82 +1,80 @@
-// A code over Gf16 so small that all its words can be tried.
-ghost use Rattle.std.specs.Prelude.{◌≤◌};
-
+// A code over a small field, with words so short that all of them can be tried.
+use crate::small_field::SmallField;
 use crate::tally::Tally;
-use crate::word::Word;
+use crate::word::{distance, is_written, multiply_by_generator, write_numbered};
 use codes::{WORK_SYMBOLS, correct};
-use gf::{Gf16, Refusal};
+use gf::Refusal;
 use std::alloc::{AllocError, Global};
 use std::fmt;
 
 // The code with words of so many symbols, of which so many are checks, and all its codewords.
 #[derive(Drop)]
-pub struct SmallCode<const SYMBOLS: usize, const CHECKS: usize> {
-    codewords: Vec<Word<SYMBOLS>>,
-    // So that a word fits in memory. Where there is no code yet it is asked, since no bound can say it of a const parameter.
-    ghost short: { SYMBOLS ≤ 255 },
+pub struct SmallCode<F: SmallField> {
+    symbols: usize,
+    checks: usize,
+    codewords: Vec<Vec<F>>,
 }
 
 // How many words of so many symbols there are.
-fn word_count(symbols: usize) -> usize
-    requires { symbols ≤ 255 }
-{
-    16usize.saturating_pow(symbols as u32)
+fn word_count<F: SmallField>(symbols: usize) -> usize {
+    (0..symbols).fold(1, |count: usize, _| count.saturating_mul(F::order()))
 }
 
-impl<const SYMBOLS: usize, const CHECKS: usize> SmallCode<SYMBOLS, CHECKS> {
-    pub fn new(alloc: Global) -> Result<Self, AllocError>
-        requires { SYMBOLS ≤ 255 }
-    {
+impl<F: SmallField> SmallCode<F> {
+    pub fn new(alloc: Global, symbols: usize, checks: usize) -> Result<Self, AllocError> {
         let mut codewords = Vec::new(alloc);
-        // A loop, since no proof is made of a `map` whose closure answers a word of a length that is a parameter.
-        for number in 0..word_count(SYMBOLS.saturating_sub(CHECKS)) {
-            codewords.push(Word::numbered(number).times_generator(CHECKS))?;
+        for number in 0..word_count::<F>(symbols.saturating_sub(checks)) {
+            let mut codeword = vec![in alloc; F::zero(); symbols]?;
+            write_numbered(&mut codeword, number);
+            multiply_by_generator(&mut codeword, checks);
+            codewords.push(codeword)?;
         }
-        Ok(SmallCode { codewords })
+        Ok(SmallCode {
+            symbols,
+            checks,
+            codewords,
+        })
     }
 
     // Whether a correction may answer so and leave `after` of a word, by the codewords that are near enough.
-    fn is_right(
-        &self,
-        word: &Word<SYMBOLS>,
-        answer: &Result<usize, Refusal>,
-        after: &Word<SYMBOLS>,
-    ) -> bool {
+    fn is_right(&self, word: &[F], answer: &Result<usize, Refusal>, after: &[F]) -> bool {
         let mut near = self
             .codewords
             .iter()
-            .filter(|codeword| word.distance(codeword) <= CHECKS / 2);
+            .filter(|codeword| distance(word, codeword) <= self.checks / 2);
         match (answer, near.next(), near.next()) {
             (Ok(changed), Some(codeword), None) => {
-                *changed == word.distance(codeword) && after.is_written(word, codeword)
+                *changed == distance(word, codeword) && is_written(after, word, codeword)
             }
-            (Err(Refusal::BeyondRepair), None, _) => after.is_written(word, word),
+            (Err(Refusal::BeyondRepair), None, _) => is_written(after, word, word),
             _ => false,
         }
     }
 
     // Corrects every word, and holds each answer against the codewords.
-    pub fn try_words(&self) -> Tally {
-        let mut work = [Gf16(0); WORK_SYMBOLS];
+    pub fn try_words(&self, alloc: Global) -> Result<Tally, AllocError> {
+        let mut work = vec![in alloc; F::zero(); WORK_SYMBOLS]?;
+        let mut word = vec![in alloc; F::zero(); self.symbols]?;
+        let mut after = vec![in alloc; F::zero(); self.symbols]?;
         let mut tally = Tally::default();
-        for number in 0..word_count(SYMBOLS) {
-            let word = Word::numbered(number).stored();
-            let mut after = word;
-            let answer = correct(&mut after.0, CHECKS, &mut work);
+        for number in 0..word_count::<F>(self.symbols) {
+            write_numbered(&mut word, number);
+            write_numbered(&mut after, number);
+            let answer = correct(&mut after, self.checks, &mut work);
             tally.count(&answer, self.is_right(&word, &answer, &after));
         }
-        tally
+        Ok(tally)
     }
 }
 
-impl<const SYMBOLS: usize, const CHECKS: usize> fmt::Display for SmallCode<SYMBOLS, CHECKS> {
+impl<F: SmallField> fmt::Display for SmallCode<F> {
     fn fmt<W: fmt::Write>(&self, f: &mut fmt::Formatter<W>) -> fmt::Result {
-        let symbols = SYMBOLS;
-        let checks = CHECKS;
-        let codewords = self.codewords.len();
-        write!(
-            f,
-            "{symbols} symbols, {checks} checks: {codewords} codewords"
-        )
+        let SmallCode {
+            symbols,
+            checks,
+            codewords,
+        } = self;
+        let count = codewords.len();
+        write!(f, "{symbols} symbols, {checks} checks: {count} codewords")
     }
 }

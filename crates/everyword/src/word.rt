@@ -1,63 +1,46 @@
-// Words over Gf16 and the polynomials that they are, the highest power first.
-use gf::{Field, Gf16};
-use std::{iter, mem};
+// Words over a small field, and the polynomials that they are, the highest power first.
+use crate::small_field::SmallField;
+use gf::Field;
+use std::mem;
 
-// Every symbol is stored with these bits above its element, which a correction must keep where it changes nothing.
-const ABOVE: u8 = 0x50;
-
-#[derive(Clone, Copy)]
-pub struct Word<const SYMBOLS: usize>(pub [Gf16; SYMBOLS]);
-
-impl<const SYMBOLS: usize> Word<SYMBOLS> {
-    // The word whose elements are the digits of the number to the base 16.
-    pub fn numbered(number: usize) -> Self {
-        let mut rest = number;
-        let mut symbols = [Gf16(0); SYMBOLS];
-        for symbol in symbols.iter_mut().rev() {
-            *symbol = Gf16((rest % 16) as u8);
-            rest /= 16;
-        }
-        Word(symbols)
+// Writes the word whose elements are the digits of the number, to the base of as many elements as there are.
+pub fn write_numbered<F: SmallField>(word: &mut [F], number: usize) {
+    let mut rest = number;
+    for symbol in word.iter_mut().rev() {
+        *symbol = F::numbered(rest % F::order());
+        rest /= F::order();
     }
+}
 
-    // The product with x - root, of a polynomial whose highest coefficient is zero.
-    fn times_factor(mut self, root: Gf16) -> Self {
-        let mut lower = Gf16(0);
-        for coefficient in self.0.iter_mut().rev() {
-            let product = lower.add(root.mul(*coefficient).neg());
-            lower = mem::replace(coefficient, product);
-        }
-        self
+// Multiplies by x - root a polynomial whose highest coefficient is zero.
+fn multiply_by_factor<F: Field>(word: &mut [F], root: F) {
+    let mut lower = F::zero();
+    for coefficient in word.iter_mut().rev() {
+        let product = lower.add(root.mul(*coefficient).neg());
+        lower = mem::replace(coefficient, product);
     }
+}
 
-    // The product with the generator, which is that of x - 1, x - 2, x - 4, … with a factor for each check.
-    pub fn times_generator(self, checks: usize) -> Self {
-        iter::successors(Some(Gf16(1)), |root| Some(root.mul(Gf16(2))))
-            .take(checks)
-            .fold(self, Word::times_factor)
+// Multiplies by the generator, which is the product of x - 1, x - root, x - root^2, … with a factor for each check.
+pub fn multiply_by_generator<F: Field>(word: &mut [F], checks: usize) {
+    let mut root = F::one();
+    for _ in 0..checks {
+        multiply_by_factor(word, root);
+        root = root.mul(F::root());
     }
+}
 
-    // The same elements, each stored with bits above it.
-    pub fn stored(mut self) -> Self {
-        for symbol in &mut self.0 {
-            symbol.0 |= ABOVE;
-        }
-        self
-    }
+// At how many places the words have different elements.
+pub fn distance<F: Field>(word: &[F], other: &[F]) -> usize {
+    word.iter()
+        .zip(other)
+        .filter(|(symbol, other)| !symbol.same(**other))
+        .count()
+}
 
-    // At how many places the words have different elements.
-    pub fn distance(&self, other: &Self) -> usize {
-        self.0
-            .iter()
-            .zip(&other.0)
-            .filter(|(symbol, other)| !symbol.same(**other))
-            .count()
-    }
-
-    // Whether the word has the elements of `meant`, and the very symbols of `before` wherever these mean the same.
-    pub fn is_written(&self, before: &Self, meant: &Self) -> bool {
-        self.0.iter().zip(&before.0).zip(&meant.0).all(|((symbol, before), meant)| {
-            symbol.same(*meant) && (symbol.0 == before.0 || !before.same(*meant))
-        })
-    }
+// Whether the word has the elements of `meant`, and the very symbols of `before` wherever these mean the same.
+pub fn is_written<F: SmallField>(word: &[F], before: &[F], meant: &[F]) -> bool {
+    word.iter().zip(before).zip(meant).all(|((symbol, before), meant)| {
+        symbol.same(*meant) && (symbol.byte() == before.byte() || !before.same(*meant))
+    })
 }

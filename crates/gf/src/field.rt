@@ -43,9 +43,17 @@ pub trait Field: Copy {
     fn same(self, other: Self) -> bool
         ensures { result ≡ field.equal (mean self) (mean other) };
 
-    // The product with a power of the root below the sixteenth: the exponent counts modulo 16.
+    // The product with a power of the root below the sixteenth: the exponent counts modulo 16. A field with tables has a body of its own.
     fn times_root_power(self, exponent: usize) -> Self
-        ensures { mean result ≡ field.mul (mean self) (pow field field.root (exponent % 16)) };
+        ensures { mean result ≡ field.mul (mean self) (pow field field.root (exponent % 16)) }
+    {
+        let root = Self::root();
+        let mut product = self;
+        for _ in 0..exponent % 16 {
+            product = product.mul(root);
+        }
+        product
+    }
 
     // They keep all laws of a field.
     ghost laws: { Laws field };

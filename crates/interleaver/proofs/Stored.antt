@@ -1,11 +1,11 @@
 -- What filling and correcting do to symbols, told of what the symbols are stored as.
-use Rattle.std.proofs.Common.{◌≡◌, ℕ, suc, ◌-◌, ◌*◌, ◌<◌, ◌≤◌, Bool, true, false, cond, List, [], ◌∷◌, map, length, get_or, take, sym, refl, ap, ◌∙◌, subst, ap₂, ⊎_elim, arith}
+use Rattle.std.proofs.Common.{◌≡◌, ℕ, suc, ◌-◌, ◌*◌, ◌<◌, ◌≤◌, Bool, true, false, cond, List, [], ◌∷◌, map, length, get_or, take, drop, sym, refl, ap, ◌∙◌, subst, ap₂, ⊎_elim, arith}
 use lib.ListN.{length-map}
 use mathlib.Core.List.{map-map}
 use Rattle.std.proofs.lemmas.Bool.{cases_lt}
 use Rattle.std.proofs.lemmas.List.{get_or-map, get_or_past, take-map, same_lists}
 use Rattle.gf.specs.Theory.{Operations, Laws}
-use Rattle.codes.specs.Codewords.{Codeword, distance, Filled, Corrected, Beyond}
+use Rattle.codes.specs.Codewords.{Codeword, checks_of, distance, Filled, Corrected, Beyond}
 
 -- symbols of S mean what the T mean that they are stored as
 module _ {E S T : Type 0} (f : Operations E) (mean : T → E) (out : S → T) (r : ℕ) (before after : List S) where
@@ -19,6 +19,9 @@ module _ {E S T : Type 0} (f : Operations E) (mean : T → E) (out : S → T) (r
   stored_filled w = record {
     long = stored_long w.long;
     data_kept = take-stored after ∙ ap (map out) w.data_kept ∙ sym (take-stored before);
+    checks =
+        ap₂ (λ (n : ℕ) v. drop (n - r) v) (length-map before out) (map-map mean out after) ∙ w.checks
+        ∙ sym (ap₂ (λ (n : ℕ) v. checks_of f r (take (n - r) v)) (length-map before out) (map-map mean out before));
     codeword = subst (Codeword f r) (sym (map-map mean out after)) w.codeword;
     only = λ other e c t. w.only other (e ∙ length-map before out) c (same other t) ∙ sym (map-map mean out after);
   }

@@ -1,10 +1,12 @@
-// Running a receiver over a recording, and counting what it delivers.
+// Correcting a word and running a receiver over a recording, in one call, and counting what it delivers.
 ghost use Rattle.std.specs.Prelude.{IfOk};
+ghost use Rattle.codes.specs.Correcting.{Corrects};
 ghost use Rattle.stretches.specs.Instances.{WholeRun};
 
 use crate::blocks::changes;
 use crate::failure::Failure;
-use reception::{Call, Delivery, Listener, Outcome, Pulled, UnitState, drive};
+use gf::{Field, Refusal};
+use reception::{Call, Delivery, Listener, Outcome, Pulled, UnitState, correct_and_drive};
 use sources::Recording;
 use std::alloc::Global;
 
@@ -52,9 +54,16 @@ impl Listener for Deliveries<'_> {
     }
 }
 
-// Gives a new receiver every frame of the recording, and counts what it delivers.
-pub fn receive(alloc: Global, size: usize, recording: &[u8]) -> Result<Tally, Failure>
-    ensures { IfOk result (λ _. WholeRun size recording.now) }
+// Corrects the word, and gives a new receiver every frame of the recording. Answers what correcting answered, and counts what is delivered.
+pub fn receive<F: Field>(
+    alloc: Global,
+    size: usize,
+    recording: &[u8],
+    word: &mut [F],
+    checks: usize,
+    work: &mut [F],
+) -> Result<(Result<usize, Refusal>, Tally), Failure>
+    ensures { IfOk result (λ done. Corrects F.field F.mean checks word.old word.new work.old work.new done.0 × WholeRun size recording.now) }
 {
     let source = Recording::new(size, recording)?;
     let length = 120 * size;
@@ -68,6 +77,15 @@ pub fn receive(alloc: Global, size: usize, recording: &[u8]) -> Result<Tally, Fa
         rest: recording,
         tally,
     };
-    drive(size, source, &calls, &mut buffer, &mut deliveries);
-    Ok(deliveries.tally)
+    let (corrected, _source) = correct_and_drive(
+        word,
+        checks,
+        work,
+        size,
+        source,
+        &calls,
+        &mut buffer,
+        &mut deliveries,
+    );
+    Ok((corrected, deliveries.tally))
 }

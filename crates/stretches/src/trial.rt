@@ -1,10 +1,12 @@
 // Trying a recording: whether it is what the laws over runs suppose, and what a receiver then makes of it.
 ghost use Rattle.std.specs.Prelude.{IfOk, MatchOption};
+ghost use Rattle.codes.specs.Correcting.{Corrects};
 ghost use Rattle.stretches.specs.Instances.{IsStretch, Demonstrated};
 
 use crate::failure::Failure;
 use crate::receiving::{Tally, receive};
 use crate::stretch::find_stretch;
+use gf::{Field, Refusal};
 use std::alloc::Global;
 use std::fmt;
 
@@ -13,19 +15,30 @@ use std::fmt;
 pub struct Trial {
     super_frames: usize,
     tally: Tally,
+    // How many places of the word were corrected.
+    corrected: Result<usize, Refusal>,
 }
 
-// Tries a recording; none comes of it where it is not what the laws suppose.
-pub fn try_recording(alloc: Global, size: usize, recording: &[u8]) -> Result<Option<Trial>, Failure>
-    ensures { IfOk result (λ tried. MatchOption tried (IsStretch size 0 0 recording.now → ⊥) (λ trial. Demonstrated size trial.super_frames recording.now)) }
+// Tries a recording, and corrects a word in the same call; none comes of it where it is not what the laws suppose.
+pub fn try_recording<F: Field>(
+    alloc: Global,
+    size: usize,
+    recording: &[u8],
+    word: &mut [F],
+    checks: usize,
+    work: &mut [F],
+) -> Result<Option<Trial>, Failure>
+    ensures { IfOk result (λ tried. MatchOption tried (IsStretch size 0 0 recording.now → ⊥) (λ trial. Demonstrated size trial.super_frames recording.now
+        × Corrects F.field F.mean checks word.old word.new work.old work.new trial.corrected)) }
 {
     let Some(super_frames) = find_stretch(size, 0, 0, recording)? else {
         return Ok(None);
     };
-    let tally = receive(alloc, size, recording)?;
+    let (corrected, tally) = receive(alloc, size, recording, word, checks, work)?;
     Ok(Some(Trial {
         super_frames,
         tally,
+        corrected,
     }))
 }
 
@@ -34,6 +47,7 @@ impl fmt::Display for Trial {
         let Trial {
             super_frames,
             tally,
+            corrected,
         } = *self;
         let Tally {
             as_written,
@@ -41,11 +55,16 @@ impl fmt::Display for Trial {
         } = tally;
         write!(f, "{super_frames} super frames, the premises hold, ")?;
         if as_written == super_frames && otherwise == 0 {
-            return write!(f, "all delivered as written");
+            write!(f, "all delivered as written; ")?;
+        } else {
+            write!(
+                f,
+                "{as_written} delivered as written, {otherwise} otherwise; "
+            )?;
         }
-        write!(
-            f,
-            "{as_written} delivered as written, {otherwise} otherwise"
-        )
+        match corrected {
+            Ok(places) => write!(f, "{places} places corrected"),
+            Err(refusal) => write!(f, "{refusal}"),
+        }
     }
 }

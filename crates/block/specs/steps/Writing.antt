@@ -1,10 +1,10 @@
 -- What the steps of writing a super frame promise each other. No public contract speaks of these.
-use Rattle.std.specs.Prelude.{◌≡◌, ℕ, ◌+◌, ◌-◌, ◌*◌, ◌<◌, List, [], ◌∷◌, ◌++◌, length, take, drop, Result, slice_index, slice_index_or}
+use Rattle.std.specs.Prelude.{◌≡◌, ℕ, ◌-◌, ◌*◌, List, ◌∷◌, ◌++◌, length, take, drop, Result}
 use Rattle.gf.specs.declared.refusal.Refusal.{Refusal}
 use Rattle.gf.specs.Refusals.{Answers}
 use Rattle.block.specs.declared.settings.Settings.{Settings}
 use Rattle.block.specs.declared.writer.OpenWriter.{OpenWriter}
-use Rattle.block.specs.SuperFrames.{layout_for, parameter_byte, packed, digits, checked_units}
+use Rattle.block.specs.SuperFrames.{layout_for, parameter_byte, packed, digits, checked_units, Fill}
 use Rattle.block.specs.Places.{units_in}
 use Rattle.block.specs.Writing.{making_complaints}
 
@@ -25,12 +25,6 @@ with_unit_checks w block =
     take (layout_for w.settings).header_length block
     ++ (checked_units (units_in w.starts w.added block) ++ drop (110 * w.settings.size) block)
 
--- the writer has these units' places
-pub record HasPlaces (w : OpenWriter) (units : List (List ℕ)) : Type 0 where
-  pub whole : w.added ≡ (layout_for w.settings).units
-  pub count : w.added ≡ length units
-  pub each : (n : ℕ) → n < w.added → slice_index w.starts (n + 1) ≡ slice_index w.starts n + length (slice_index_or units n []) + 2
-
--- the writer that has the units' places; or the first refusal
-abbrev pub PlacesAll : Settings → List (List ℕ) → Result OpenWriter Refusal → Type 0
-PlacesAll s units answer = Answers (making_complaints s units) (λ w. (w.settings ≡ s) × HasPlaces w units) answer
+-- the units fill the super frame; or the first refusal
+abbrev pub Admits : Settings → List (List ℕ) → Result Unit Refusal → Type 0
+Admits s units answer = Answers (making_complaints s units) (λ _. Fill s units) answer
