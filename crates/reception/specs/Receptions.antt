@@ -1,5 +1,5 @@
 -- What a receiver is to its callers, what it is asked, and what it answers.
-use Rattle.std.specs.Prelude.{ℕ, ◌*◌, Bool, not, ◌&&◌, List, [], ◌∷◌, length, Result, ◌==◌, nat_le}
+use Rattle.std.specs.Prelude.{◌≡◌, ℕ, ◌*◌, Bool, not, ◌&&◌, List, [], ◌∷◌, length, Result, Ok, Err, ◌==◌, nat_le}
 use Rattle.gf.specs.declared.refusal.Refusal.{Refusal}
 use Rattle.gf.specs.declared.refusal.Refusal.TheVariants.{FrameLength, Patience}
 use Rattle.gf.specs.Refusals.{of_size}
@@ -8,9 +8,10 @@ use Rattle.sources.specs.Sources.{Source, without_first}
 use Rattle.reception.specs.declared.mode.Mode.{Mode}
 use Rattle.reception.specs.declared.mode.Mode.TheVariants.{Hunting}
 use Rattle.reception.specs.declared.answers.Pulled.{Pulled}
+use Rattle.reception.specs.declared.answers.Pulled.TheVariants.{NothingWaiting}
 use Rattle.reception.specs.declared.answers.Report.{Report}
 
--- A receiver between two calls.
+-- A receiver between two calls, as its rules know it.
 pub record Reception : Type 0 where
   -- where its frames come from
   pub source : Source
@@ -24,6 +25,20 @@ pub record Reception : Type 0 where
   pub misses : ℕ
   -- how many of them end a lock
   pub patience : ℕ
+
+-- A receiver between two calls with its source itself, lent bytes and all. Its other parts are as above.
+pub record ReceiverOver (S : Type 0) : Type 0 where
+  pub source : S
+  pub size : ℕ
+  pub mode : Mode
+  pub held : List (List ℕ)
+  pub misses : ℕ
+  pub patience : ℕ
+
+-- what its rules know of it
+abbrev pub reception : {S : Type 0} → (S → Source) → ReceiverOver S → Reception
+reception meaning r =
+    record { source = meaning r.source; size = r.size; mode = r.mode; held = r.held; misses = r.misses; patience = r.patience }
 
 -- a new receiver hunts, has patience 3, no misses, and holds no frame
 abbrev pub new_receiver : ℕ → Source → Reception
@@ -49,6 +64,12 @@ pull_complaints r buffer = of_block r.size buffer ((not (r.source.frame_length =
 -- the refusals of setting the patience, each with its condition
 abbrev pub patience_complaints : ℕ → List (Bool × Refusal)
 patience_complaints number = (not (nat_le 1 number && nat_le number 16), Patience) ∷ []
+
+-- The source itself is as it was, its lent bytes included, unless a frame was taken.
+abbrev pub SameUnlessTaken : {S : Type 0} → S → S → Result Pulled Refusal → Type 0
+SameUnlessTaken before after (Ok NothingWaiting) = after ≡ before
+SameUnlessTaken before after (Ok answer) = Unit {0}
+SameUnlessTaken before after (Err refusal) = after ≡ before
 
 -- What a receiver is asked.
 pub data Asked : Type 0 where

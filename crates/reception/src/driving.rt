@@ -1,7 +1,7 @@
 // Running lists of calls on a receiver.
 ghost use Rattle.std.specs.Prelude.{◌≡◌};
 ghost use Rattle.codes.specs.Correcting.{Corrects};
-ghost use Rattle.reception.specs.Receptions.{Reception, new_receiver};
+ghost use Rattle.reception.specs.Receptions.{Reception, reception, new_receiver};
 ghost use Rattle.reception.specs.Runs.{CutAnywhere};
 ghost use Rattle.reception.specs.Recovery.{BackAfterBadReception};
 ghost use Rattle.reception.specs.Service.{LineServed, NothingLostWhileHunting, OneAnswer};
@@ -17,7 +17,7 @@ use sources::FrameSource;
 impl<S: FrameSource> Receiver<S> {
     // Makes one call, and tells the listener what came of it. A pull is lent the first bytes of the buffer.
     fn make<L: Listener>(&mut self, call: &Call<'_>, buffer: &mut [u8], listener: &mut L)
-        ensures { Ran L.hears self.old call.now buffer.old buffer.new listener.old listener.new self.new }
+        ensures { Ran L.hears (reception S.meaning self.old) call.now buffer.old buffer.new listener.old listener.new (reception S.meaning self.new) }
     {
         match *call {
             Call::Pull { length } => {
@@ -48,7 +48,7 @@ impl<S: FrameSource> Receiver<S> {
     // Makes the calls one after another, and tells the listener of each what came of it. Each pull is lent the first bytes of the buffer,
     // as many as the call says, or all of them.
     pub fn run<L: Listener>(&mut self, calls: &[Call<'_>], buffer: &mut [u8], listener: &mut L)
-        ensures driven { Driven L.hears self.old calls.now buffer.old buffer.new listener.old listener.new self.new }
+        ensures driven { Driven L.hears (reception S.meaning self.old) calls.now buffer.old buffer.new listener.old listener.new (reception S.meaning self.new) }
         ensures pieces { PiecesAreOneRun L.hears }
         ensures cut { CutAnywhere }
     {

@@ -1,6 +1,7 @@
 // The frames that a receiver holds.
 ghost use Rattle.std.specs.Prelude.{◌≡◌, ◌*◌, ◌<◌, ◌≤◌, [], length, drop};
 ghost use Rattle.std.specs.List.{concat};
+ghost use Rattle.sources.specs.Sources.{SameUnlessFound};
 ghost use Rattle.reception.specs.steps.Holding.{TakesIn};
 
 use crate::sizes::{FRAMES, MAX_BLOCK_BYTES};
@@ -59,7 +60,9 @@ impl HeldFrames {
     pub(crate) fn take_next<S: FrameSource>(&mut self, source: &mut S) -> Result<Next, Refusal>
         requires few { length self.old.frames < 5 }
         requires fits { (S.meaning source.old).frame_length ≡ self.old.frame_length }
-        ensures { TakesIn (S.meaning source.old) self.old (S.meaning source.new) self.new result }
+        ensures taken { TakesIn (S.meaning source.old) self.old (S.meaning source.new) self.new result }
+        ensures same { SameUnlessFound source.old source.new result }
+        ensures reads { S.memory source.new ≡ S.memory source.old }
     {
         let start = self.count * self.frame_length;
         let place = &mut self.bytes[start..start + self.frame_length];

@@ -1,7 +1,8 @@
 // The receiver: it finds the boundary of super frames among the frames of a source, and follows it.
-ghost use Rattle.std.specs.Prelude.{◌≡◌, ◌≤◌};
+ghost use Rattle.std.specs.Prelude.{◌≡◌, ◌≤◌, OnOk};
 ghost use Rattle.gf.specs.Refusals.{unless, Answers};
-ghost use Rattle.reception.specs.Receptions.{new_receiver, receiver_complaints, pull_complaints, patience_complaints, pulled, offered, restarted, patience_set, reported};
+ghost use Rattle.sources.specs.Sources.{SameUnlessTakenIn, WritesOnlyFrame};
+ghost use Rattle.reception.specs.Receptions.{reception, new_receiver, SameUnlessTaken, receiver_complaints, pull_complaints, patience_complaints, pulled, offered, restarted, patience_set, reported};
 ghost use Rattle.reception.specs.Rules.{Rule};
 ghost use Rattle.reception.specs.steps.Calls.{PullFits};
 
@@ -44,12 +45,12 @@ pub struct Receiver<S: FrameSource> {
 
 impl<S: FrameSource> Model for Receiver<S> {
     ghost use Rattle.std.specs.Prelude.{◌≡◌, ◌*◌, ◌<◌, ◌≤◌, length};
-    ghost use Rattle.reception.specs.Receptions.{Reception};
+    ghost use Rattle.reception.specs.Receptions.{ReceiverOver};
 
-    ghost Value = { Reception };
+    ghost Value = { ReceiverOver S };
 
     ghost view = { λ r. record {
-      source = S.meaning r.source;
+      source = r.source;
       size = r.size;
       mode = r.mode;
       held = r.held.frames;
@@ -77,7 +78,8 @@ impl<S: FrameSource> Receiver<S> {
 
     // A receiver that hunts. It is made in any case: where the check refuses, so does each pull.
     pub fn new(size: usize, source: S) -> Receiver<S>
-        ensures { result ≡ new_receiver size (S.meaning source) }
+        ensures made { reception S.meaning result ≡ new_receiver size (S.meaning source) }
+        ensures source { result.source ≡ source }
     {
         // With a size above 24 no pull is answered, and no frame is held.
         let frame_length = if size <= MAX_SIZE {
@@ -97,7 +99,7 @@ impl<S: FrameSource> Receiver<S> {
 
     // Whether a pull with this buffer is refused.
     fn check_pull(&self, buffer: &[u8]) -> Result<(), Refusal>
-        ensures { Answers (pull_complaints self.now buffer.now) (λ _. PullFits self.now buffer.now) result }
+        ensures { Answers (pull_complaints (reception S.meaning self.now) buffer.now) (λ _. PullFits (reception S.meaning self.now) buffer.now) result }
     {
         if !(1..=MAX_SIZE).contains(&self.size) {
             return Err(Refusal::Size);
@@ -109,9 +111,11 @@ impl<S: FrameSource> Receiver<S> {
     }
 
     // Takes the next frame. Where it ends a super frame that is delivered, the repaired block is written over the buffer, which has 120
-    // bytes times the size; else the buffer stays as it is.
+    // bytes times the size; else the buffer stays as it is. Where no frame is taken, the source stays as it is, its lent bytes included.
     pub fn pull(&mut self, buffer: &mut [u8]) -> Result<Pulled, Refusal>
-        ensures { Rule self.old (pulled buffer.old result buffer.new) self.new }
+        ensures rule { Rule (reception S.meaning self.old) (pulled buffer.old result buffer.new) (reception S.meaning self.new) }
+        ensures same { SameUnlessTaken self.old.source self.new.source result }
+        ensures reads { S.memory self.new.source ≡ S.memory self.old.source }
     {
         self.check_pull(buffer)?;
         let Next::Frame = self.held.take_next(&mut self.source)? else {
@@ -152,16 +156,19 @@ impl<S: FrameSource> Receiver<S> {
         }
     }
 
-    // Puts a frame into the source.
+    // Puts a frame into the source, or leaves it as it is, its lent bytes included.
     pub fn offer(&mut self, frame: &[u8]) -> Result<(), Refusal>
-        ensures { Rule self.old (offered frame.now result) self.new }
+        ensures rule { Rule (reception S.meaning self.old) (offered frame.now result) (reception S.meaning self.new) }
+        ensures same { SameUnlessTakenIn self.old.source self.new.source result }
+        ensures writes { OnOk result (WritesOnlyFrame frame.now (S.memory self.old.source) (S.memory self.new.source)) }
     {
         self.source.offer(frame)
     }
 
     // Lets the frames held go, forgets the misses, and hunts.
     pub fn reset(&mut self)
-        ensures { Rule self.old restarted self.new }
+        ensures rule { Rule (reception S.meaning self.old) restarted (reception S.meaning self.new) }
+        ensures source { self.new.source ≡ self.old.source }
     {
         self.held.clear();
         self.misses = 0;
@@ -170,7 +177,8 @@ impl<S: FrameSource> Receiver<S> {
 
     // From now on so many misses in a row end a lock: 1 to 16.
     pub fn patience(&mut self, patience: usize) -> Result<(), Refusal>
-        ensures { Rule self.old (patience_set patience result) self.new }
+        ensures rule { Rule (reception S.meaning self.old) (patience_set patience result) (reception S.meaning self.new) }
+        ensures source { self.new.source ≡ self.old.source }
     {
         check_patience(patience)?;
         self.patience = patience;
@@ -179,7 +187,7 @@ impl<S: FrameSource> Receiver<S> {
 
     // Where the receiver stands.
     pub fn report(&self) -> Report
-        ensures { Rule self.now (reported result) self.now }
+        ensures { Rule (reception S.meaning self.now) (reported result) (reception S.meaning self.now) }
     {
         Report {
             mode: self.mode,
@@ -191,7 +199,7 @@ impl<S: FrameSource> Receiver<S> {
 
     // Gives the source back.
     pub fn end(self) -> S
-        ensures { S.meaning result ≡ self.source }
+        ensures { result ≡ self.source }
     {
         let Receiver { source, .. } = self;
         source

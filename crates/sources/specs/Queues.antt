@@ -1,5 +1,5 @@
 -- What a queue means, and what checking and making one answer.
-use Rattle.std.specs.Prelude.{ℕ, ◌*◌, ◌/◌, Bool, true, cond, not, List, [], ◌∷◌, length, is_none, ◌==◌}
+use Rattle.std.specs.Prelude.{ℕ, ◌+◌, ◌*◌, ◌/◌, Bool, true, cond, not, List, [], ◌∷◌, length, is_none, nat_lt, ◌==◌}
 use Rattle.gf.specs.declared.refusal.Refusal.{Refusal}
 use Rattle.gf.specs.declared.refusal.Refusal.TheVariants.{Buffer}
 use Rattle.gf.specs.Refusals.{first_refusal, of_size}
@@ -11,11 +11,14 @@ use Rattle.sources.specs.Frames.{ring_frames}
 abbrev pub queue_source : ℕ → List (List ℕ) → ℕ → Source
 queue_source frame_length frames free = record { frame_length = frame_length; waiting = frames; free = free; gives_back = true }
 
--- what a queue means; each of its places is a 32nd of the buffer
+-- bytes in each frame of a queue: each place is a 32nd of the buffer; without a place there are none
+abbrev pub queue_frame_length : FrameQueue → ℕ
+queue_frame_length q = cond (nat_lt 0 (q.ring.occupied + q.ring.free)) (length q.buffer.now / 32) 0
+
+-- what a queue means
 abbrev pub source_of_queue : FrameQueue → Source
 source_of_queue q =
-    let frame_length = length q.buffer.now / 32 in
-    queue_source frame_length (ring_frames frame_length q.ring.first q.ring.occupied q.buffer.now) q.ring.free
+    queue_source (queue_frame_length q) (ring_frames (queue_frame_length q) q.ring.first q.ring.occupied q.buffer.now) q.ring.free
 
 -- the refusals of checking a queue, each with its condition: the size; or the buffer has not 768 bytes times the size
 abbrev pub queue_complaints : ℕ → List ℕ → List (Bool × Refusal)

@@ -1,9 +1,10 @@
 -- What a frame source means, and what its calls answer.
-use Rattle.std.specs.Prelude.{◌≡◌, ℕ, ◌+◌, ◌-◌, Bool, cond, not, List, [], ◌∷◌, ◌++◌, length, drop, Result, ◌==◌}
+use Rattle.std.specs.Prelude.{◌≡◌, ℕ, ◌+◌, ◌-◌, ◌*◌, ◌≤◌, ◌⊎◌, Bool, cond, not, List, [], ◌∷◌, ◌++◌, length, drop, Ok, Err, Result, ◌==◌}
 use Rattle.std.specs.List.{All}
 use Rattle.gf.specs.declared.refusal.Refusal.{Refusal}
 use Rattle.gf.specs.declared.refusal.Refusal.TheVariants.{FrameLength, Full}
 use Rattle.gf.specs.Refusals.{Performs}
+use Rattle.sources.specs.Frames.{with_frame}
 use Rattle.sources.specs.declared.source.Next.{Next}
 use Rattle.sources.specs.declared.source.Next.TheVariants.{Frame, NothingWaiting}
 
@@ -61,3 +62,19 @@ offer_complaints s frame = of_frame s.frame_length frame ((s.free == 0, Full) �
 -- The frame waits behind the others; or the first refusal is answered, and nothing is changed.
 abbrev pub Offers : Source → List ℕ → Source → Result Unit Refusal → Type 0
 Offers s frame after answer = Performs (offer_complaints s frame) (λ _. after ≡ with_last s frame) (after ≡ s) answer
+
+-- The source itself is as it was, its lent bytes included, unless a frame was found.
+abbrev pub SameUnlessFound : {A : Type 0} → A → A → Result Next Refusal → Type 0
+SameUnlessFound before after (Ok Frame) = Unit {0}
+SameUnlessFound before after (Ok NothingWaiting) = after ≡ before
+SameUnlessFound before after (Err refusal) = after ≡ before
+
+-- The source itself is as it was, its lent bytes included, unless a frame was taken in.
+abbrev pub SameUnlessTakenIn : {A : Type 0} → A → A → Result Unit Refusal → Type 0
+SameUnlessTakenIn before after (Ok _) = Unit {0}
+SameUnlessTakenIn before after (Err refusal) = after ≡ before
+
+-- Of these bytes none is written, or only the frame in one place. A place is as long as the frame, and the first begins at the first byte.
+abbrev pub WritesOnlyFrame : List ℕ → List ℕ → List ℕ → Type 0
+WritesOnlyFrame frame before after =
+    (after ≡ before) ⊎ ((place : ℕ) × (place * length frame + length frame ≤ length before) × (after ≡ with_frame place frame before))

@@ -2,6 +2,7 @@
 ghost use Rattle.std.specs.Prelude.{◌≡◌, ◌+◌, ◌-◌, ◌*◌, ◌/◌, ◌≤◌, length, map};
 ghost use Rattle.std.specs.List.{range_with_len};
 ghost use Rattle.sources.specs.Frames.{frame_at};
+ghost use Rattle.reception.specs.Receptions.{reception};
 ghost use Rattle.stretches.specs.steps.Feeding.{Fed};
 
 use crate::witness::Witness;
@@ -33,7 +34,8 @@ pub(crate) fn feed<S: FrameSource>(
 )
     requires size { (1 ≤ size) × (size ≤ 24) }
     requires there { (first ≤ end) × (end ≤ length recording.now / (24 * size)) }
-    ensures { Fed receiver.old (map (frame_at (24 * size) recording.now) (range_with_len first (end - first))) witness.old receiver.new witness.new }
+    ensures { Fed (reception S.meaning receiver.old) (map (frame_at (24 * size) recording.now) (range_with_len first (end - first))) witness.old
+        (reception S.meaning receiver.new) witness.new }
 {
     let length = buffer.len();
     for place in first..end {

@@ -3,18 +3,21 @@ use Rattle.std.proofs.lemmas.Nat.{mul-le}
 use Rattle.std.proofs.lemmas.List.Elements.{All-head}
 use Rattle.std.specs.List.{All}
 use borrow.Rule.Slice.PartMut.{put_mid}
+use Rattle.sources.specs.Sources.{without_first}
 use Rattle.reception.specs.steps.Holding.{Holding, holding}
 use Rattle.reception.proofs.Framing.{frames_counted, frames_written, given}
 use Rattle.reception.proofs.held.HeldFrames.take_next.Goals as goal
 
-pub returns : goal.returns
-returns g c =
+pub returns-clause-taken : goal.returns-clause-taken
+returns-clause-taken g c =
     let long = c.self.inside.frame_length in
     let count = c.self.inside.count in
     let start = count * long in
     let frame = c.next.new.buffer in
     let source = g.S.FrameSource.meaning c.args.source.now in
-    let taken = given _ _ _ _ _ c.next.ensures (c.in_ok-next.was ∙ ap Ok c.in-Frame.is) in
+    let after = g.S.FrameSource.meaning c.next.new.self in
+    let taken : (source.waiting ≡ frame ∷ (without_first source).waiting) × (after ≡ without_first source) =
+    given source after _ frame c.next.result c.next.ensures.found (c.in_ok-next.was ∙ ap Ok c.in-Frame.is) in
     let counted : count ≡ length c.args.self.now.frames =
     frames_counted long count c.self.inside.bytes c.args.self.now c.self.view_is in
     let room : (count + 1) * long ≤ 5 * 576 = mul-le (count + 1) long 5 576 (omega (arith, counted, c.requires.few)) c.self.invariant.0 in
