@@ -1,8 +1,7 @@
 -- What a listener that sums up has heard in the end.
-use Rattle.std.proofs.Common.{◌≡◌, ℕ, ◌+◌, ◌*◌, ◌≤◌, List, [], ◌∷◌, length, replicate, ap, ap₂, ◌∙◌, subst, refl}
-use Rattle.std.proofs.lemmas.Bool.{le-leb, eq-eqb}
+use Rattle.std.proofs.Common.{◌≡◌, ℕ, ◌+◌, ◌*◌, List, [], ◌∷◌, replicate, ap, ap₂, ◌∙◌, subst}
 use Rattle.sources.specs.Sources.{Source}
-use Rattle.sources.specs.Queues.{queue_source, new_queue}
+use Rattle.sources.specs.Queues.{queue_source}
 use Rattle.reception.specs.declared.calls.Call.{Call}
 use Rattle.reception.specs.declared.calls.Outcome.{Outcome}
 use Rattle.reception.specs.Receptions.{Reception, Event, new_receiver}
@@ -25,13 +24,7 @@ summed (call ∷ calls) [] report after told = absurd told
 summed (call ∷ calls) (e ∷ es) report after told =
     summed calls es told.0 after told.2 ∙ ap (λ s. with_events s es) told.1.summary
 
--- A new queue in a buffer of the right length is empty.
-pub empty_queue : (size : ℕ) (buffer : List ℕ) → 1 ≤ size → size ≤ 24 → length buffer ≡ 768 * size
-    → new_queue size buffer ≡ queue_source (24 * size) [] 32
-empty_queue size buffer least most long =
-    rw (le-leb 1 size least, le-leb size 24 most, eq-eqb (length buffer) (768 * size) long) refl
-
--- The receiver was driven over such a queue.
+-- The receiver was driven over an empty queue.
 pub sums_up : (size : ℕ) {number : ℕ} {queue : Source} {calls : List Call} {buffer left : List ℕ} {report after : Reporting} {end : Reception}
     → Driven heard (new_receiver number queue) calls buffer left report after end
     → number ≡ size → queue ≡ queue_source (24 * size) [] 32 → buffer ≡ replicate (120 * size + 1) 0

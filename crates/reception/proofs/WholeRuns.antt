@@ -22,7 +22,7 @@ accepted-append [] others = refl
 accepted-append (e ∷ es) others =
     ap (λ l. accepted_by e ++ l) (accepted-append es others) ∙ sym (append_assoc (accepted_by e) (accepted es) (accepted others))
 
-patience_after-append : (p : ℕ) (es others : List Event) → patience_after p (es ++ others) ≡ patience_after (patience_after p es) others
+pub patience_after-append : (p : ℕ) (es others : List Event) → patience_after p (es ++ others) ≡ patience_after (patience_after p es) others
 patience_after-append p [] others = refl
 patience_after-append p (e ∷ es) others = patience_after-append (patience_by e p) es others
 

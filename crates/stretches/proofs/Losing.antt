@@ -1,20 +1,20 @@
 -- A recording that is handed in makes a run of which the law of recovery speaks, and in which as many super frames are lost as it allows.
-use Rattle.std.proofs.Common.{◌≡◌, ℕ, zero, suc, ◌+◌, ◌-◌, ◌*◌, ◌/◌, ◌^◌, ◌<◌, ◌≤◌, Bool, true, false, cond, List, [], ◌∷◌, ◌++◌, length, map, take, drop, Ok, sym, refl, ap, ap₂, ◌∙◌, subst, length-append, append-nil, take-append-drop, le-leb, eq-eqb, arith}
+use Rattle.std.proofs.Common.{◌≡◌, ℕ, zero, suc, ◌+◌, ◌-◌, ◌*◌, ◌/◌, ◌^◌, ◌<◌, ◌≤◌, Bool, true, false, cond, List, [], ◌∷◌, ◌++◌, length, map, take, drop, Ok, sym, refl, ap, ap₂, ◌∙◌, subst, length-append, append-nil, take-append-drop, arith}
 use Rattle.std.proofs.lemmas.List.FromFn.{take-map-range_with_len, length-map-range_with_len}
 use Rattle.std.specs.List.{range_with_len}
 use Rattle.interleaver.specs.Rows.{wrong}
 use Rattle.sources.specs.Sources.{Source}
 use Rattle.sources.specs.Frames.{frame_at, whole_frames}
-use Rattle.sources.specs.Queues.{queue_source, new_queue}
+use Rattle.sources.specs.Queues.{queue_source}
 use Rattle.reception.specs.declared.mode.Mode.TheVariants.{Locked}
 use Rattle.reception.specs.declared.answers.Report.{Report}
 use Rattle.reception.specs.Receptions.{Reception, Event, new_receiver, report_of, patience_set, reported}
 use Rattle.reception.specs.Rules.{Rule, pull_refused, nothing_waits, gathers, finds, passes_by, follows, misses_one, loses_lock, passes_on, restarts, sets_patience, keeps_patience, reports}
 use Rattle.reception.specs.Blocks.{SuperFrame}
-use Rattle.reception.specs.Runs.{Run, goes_on, takes, number_taken, frames_taken, accepted, patience_by, patience_after, until_taken}
+use Rattle.reception.specs.Runs.{Run, goes_on, takes, number_taken, frames_taken, accepted, patience_after, until_taken}
 use Rattle.reception.specs.Recovery.{At, line_of, NoOtherLegible, AsWritten, Supposed}
 use Rattle.reception.proofs.Steps.{run_line, run_number}
-use Rattle.reception.proofs.WholeRuns.{quiet_keeps}
+use Rattle.reception.proofs.WholeRuns.{patience_after-append, quiet_keeps}
 use Rattle.reception.proofs.Recovering.{back_after_bad_reception}
 use Rattle.stretches.specs.declared.losses.Passage.{Passage}
 use Rattle.stretches.specs.Instances.{five_frames, IsStretch, count_from, DeliveredIn}
@@ -36,10 +36,6 @@ calm_until (e ∷ es) calm = by (takes e) (calm_until es calm.1)
     by : (b : Bool) → AllCalm (until_taken es) → AllCalm (cond b [] (e ∷ until_taken es))
     by true others = tt
     by false others = (calm.0, others)
-
-patience_after-append : (p : ℕ) (es fs : List Event) → patience_after p (es ++ fs) ≡ patience_after (patience_after p es) fs
-patience_after-append p [] fs = refl
-patience_after-append p (e ∷ es) fs = patience_after-append (patience_by e p) es fs
 
 none_left : {A : Type 0} (xs : List A) → length xs ≡ 0 → xs ≡ []
 none_left [] none = refl
@@ -201,12 +197,6 @@ module _ (size patience start wrong_bytes count : ℕ) (bytes : List ℕ) (passa
     where
       in_place : {i : ℕ} {w : SuperFrame} → At only i w → wrong (five_frames size bytes (start + 5 * i)) w.block ≡ wrong_bytes
       in_place {i} {w} a = (sent_each size start wrong_bytes bytes as_sent i w a).counted
-
--- A new queue in a buffer of the right length is empty.
-pub empty_queue : (size : ℕ) (buffer : List ℕ) → 1 ≤ size → size ≤ 24 → length buffer ≡ 768 * size
-    → new_queue size buffer ≡ queue_source (24 * size) [] 32
-empty_queue size buffer least most long =
-    rw (le-leb 1 size least, le-leb size 24 most, eq-eqb (length buffer) (768 * size) long) refl
 
 same_report : {told other : Report} → reported told ≡ reported other → told ≡ other
 same_report same = cc

@@ -42,7 +42,10 @@ pub(crate) fn damaged(
         frames.extend_from_slice(whole)?;
     }
     if let Some(broken) = super_frames.next() {
-        for frame in broken.chunks(24 * size).skip(5_usize.saturating_sub(damage.strays)) {
+        for frame in broken
+            .chunks(24 * size)
+            .skip(5_usize.saturating_sub(damage.strays))
+        {
             frames.extend_from_slice(frame)?;
         }
     }

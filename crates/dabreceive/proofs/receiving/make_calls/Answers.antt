@@ -1,6 +1,7 @@
 use Rattle.std.proofs.Common.{rules, ◌≡◌, ℕ, ◌*◌, length, ap, ◌∙◌}
 use Rattle.sources.specs.Queues.{new_queue}
-use Rattle.dabreceive.proofs.Summing.{empty_queue, sums_up}
+use Rattle.sources.proofs.Beginning.{empty_queue}
+use Rattle.dabreceive.proofs.Summing.{sums_up}
 use Rattle.dabreceive.proofs.receiving.make_calls.Goals as goal
 
 pub returns : goal.returns

@@ -5,7 +5,8 @@ use Rattle.reception.specs.Receptions.{Reception, reception, new_receiver, patie
 use Rattle.reception.specs.Rules.{Rule}
 use Rattle.stretches.specs.declared.witness.Witness.{Witness}
 use Rattle.stretches.specs.steps.Feeding.{frames_from, Fed}
-use Rattle.stretches.proofs.Losing.{empty_queue, report_told}
+use Rattle.sources.proofs.Beginning.{empty_queue}
+use Rattle.stretches.proofs.Losing.{report_told}
 use Rattle.stretches.proofs.losses.pass.Goals as goal
 
 pub returns : goal.returns
