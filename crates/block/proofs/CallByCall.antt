@@ -201,5 +201,4 @@ module _ (s : Settings) (begun : OpenWriter) (buffer : List ℕ) (b : Begins s b
               ∙ ap (λ (k : ℕ). get_or (u ∷ later) k []) (let z : length earlier - length earlier ≡ 0 = omega arith in z))
 
 pub sealing_what_was_added : SealingWhatWasAdded
-sealing_what_was_added s units bytes f begun buffer b sized =
-    (calls_make s begun buffer b sized units f, opening_what_was_sealed s units bytes f)
+sealing_what_was_added s units f begun buffer b sized = (calls_make s begun buffer b sized units f, opening_what_was_sealed s units f)

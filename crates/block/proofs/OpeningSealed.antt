@@ -14,7 +14,7 @@ use Rattle.block.specs.Layouts.{layout, parameters, right}
 use Rattle.block.specs.Headers.{start, starts, crowded, fire_fits, fills, written, header, check_fits}
 use Rattle.block.specs.SuperFrames.{two_bytes, checked_units, unit_starts, digits, packed, parameter_byte, layout_for, behind_fire, super_frame_data, all_row_checks, superframe, Fill}
 use Rattle.block.specs.Places.{unit_in, units_in}
-use Rattle.block.specs.Laws.{untouched, ReadsAs, OpeningWhatWasSealed}
+use Rattle.block.specs.Laws.{untouched, Says, ReadsAs, OpeningWhatWasSealed}
 use Rattle.block.specs.steps.Reading.{Fits}
 use Rattle.block.proofs.HeaderParts.{length-super_frame_data, length-header, aligned-odd, crowded-none, start_packed, Right, header-right}
 use Rattle.block.proofs.PackedStarts.{length-packed, packed_lt, unsigned-packed, unsigned-packed_odd}
@@ -177,23 +177,16 @@ module _ (s : Settings) (units : List (List ℕ)) (f : Fill s units) where
         there = omega (arith, get_or-places (n + 1) (omega arith), place-more n h)
 
     -- the block is read
-    reads_as : parameters p ≡ s.parameters → right p ≡ true → BlockRepaired s.size 120 10 block block untouched → AllCodewords s.size 120 10 block
-        → length block ≡ 120 * s.size → fire_fits block ≡ true → AreBytes block → ReadsAs s units block
-    reads_as e ok repaired codewords long fire bytes = record {
-      bytes = bytes;
+    says : parameters p ≡ s.parameters → right p ≡ true → BlockRepaired s.size 120 10 block block untouched → length block ≡ 120 * s.size
+        → fire_fits block ≡ true → Says s units block
+    says e ok repaired long fire = record {
       repaired = repaired;
-      once = λ after repair changed rows. repaired_once s.size 120 10 refl block after block repair untouched (omega (arith, long)) changed bytes rows repaired;
       h = said;
       opened = opened;
       parameters = refl;
       count = sym f.count;
       held = units_in-places;
       good = good;
-      flawless = record {
-        legible = record { repaired = block; repair = untouched; bytes = bytes; rows = repaired; right = opened };
-        codewords = codewords;
-        good = good;
-      };
     }
       where
         said : Header
@@ -274,14 +267,34 @@ module _ (s : Settings) (units : List (List ℕ)) (f : Fill s units) where
   pub superframe-bytes : All AreBytes units → AreBytes (superframe s units)
   superframe-bytes bytes = subst AreBytes (sym superframe-whole) (bytes-whole bytes)
 
+  codewords : AllCodewords s.size 120 10 whole
+  codewords = subst (AllCodewords s.size 120 10) data-whole (all_codewords s.size frame length-frame)
+
+  says-whole : Says s units whole
+  says-whole =
+      says (fire / 256) (fire % 256) p checks (parameters-parameter_byte s.parameters s.right) (right-parameter_byte s.parameters s.right)
+      (repaired-untouched s.size 120 10 whole refl codewords) length-whole fire_fits-whole
+
+  reads-whole : AreBytes whole → ReadsAs s units whole
+  reads-whole bytes = record {
+    bytes = bytes;
+    says = says-whole;
+    once =
+        λ after repair changed rows.
+        repaired_once s.size 120 10 refl whole after whole repair untouched (omega (arith, length-whole)) changed bytes rows says-whole.repaired;
+    flawless = record {
+      legible = record { repaired = whole; repair = untouched; bytes = bytes; rows = says-whole.repaired; right = says-whole.opened };
+      codewords = codewords;
+      good = says-whole.good;
+    };
+  }
+
   pub reads : AreBytes (superframe s units) → ReadsAs s units (superframe s units)
-  reads bytes =
-      subst (ReadsAs s units) (sym superframe-whole)
-      (reads_as (fire / 256) (fire % 256) p checks (parameters-parameter_byte s.parameters s.right) (right-parameter_byte s.parameters s.right)
-      (repaired-untouched s.size 120 10 whole refl codewords) codewords length-whole fire_fits-whole (subst AreBytes superframe-whole bytes))
-    where
-      codewords : AllCodewords s.size 120 10 whole
-      codewords = subst (AllCodewords s.size 120 10) data-whole (all_codewords s.size frame length-frame)
+  reads bytes = subst (ReadsAs s units) (sym superframe-whole) (reads-whole (subst AreBytes superframe-whole bytes))
 
 pub opening_what_was_sealed : OpeningWhatWasSealed
-opening_what_was_sealed s units bytes f = reads s units f (superframe-bytes s units f bytes)
+opening_what_was_sealed s units f = record {
+  says = subst (Says s units) (sym (superframe-whole s units f)) (says-whole s units f);
+  bytes = superframe-bytes s units f;
+  reads = reads s units f;
+}

@@ -1,7 +1,7 @@
 -- The rows of a super frame's block: as many as the size says, of 120 bytes each, of which the last ten are checks.
 use Rattle.std.specs.Prelude.{ℕ, List}
 use Rattle.interleaver.specs.declared.repair.Repair.{Repair}
-use Rattle.interleaver.specs.Rows.{BlockRepaired, RepairStopped, ChecksFilled, AllCodewords}
+use Rattle.interleaver.specs.Rows.{BlockRepaired, RepairStopped, AllCodewords}
 
 -- Each row is corrected, or left as it was.
 abbrev pub RowsRepaired : ℕ → List ℕ → List ℕ → Repair → Type 0
@@ -10,10 +10,6 @@ RowsRepaired size before after repair = BlockRepaired size 120 10 before after r
 -- The repair stopped at the first row that no codeword is near enough to.
 abbrev pub RowsStopped : ℕ → List ℕ → List ℕ → Type 0
 RowsStopped size before after = RepairStopped size 120 10 before after
-
--- The checks of each row are filled, and no other byte is written.
-abbrev pub RowsFilled : ℕ → List ℕ → List ℕ → Type 0
-RowsFilled size before after = ChecksFilled size 120 10 before after
 
 -- Every row is a codeword.
 abbrev pub RowsRight : ℕ → List ℕ → Type 0

@@ -42,23 +42,32 @@ pub record Flawless (size : ℕ) (block : List ℕ) (h : Header) : Type 0 where
 abbrev pub untouched : Repair
 untouched = record { changed = 0; rows_left = 0; lowest_left = None }
 
--- A block of bytes reads as these settings and units: repair changes no byte and leaves no row, and nothing else is a repair of it; the
--- header says the settings; and the units are those that the block holds, each with its check. So the block is flawless.
-pub record ReadsAs (s : Settings) (units : List (List ℕ)) (block : List ℕ) : Type 0 where
-  pub bytes : AreBytes block
+-- A block says these settings and units: repair changes no byte and leaves no row; the header says the settings; and the units are those that
+-- the block holds, each with its check.
+pub record Says (s : Settings) (units : List (List ℕ)) (block : List ℕ) : Type 0 where
   pub repaired : RowsRepaired s.size block block untouched
-  pub once : (after : List ℕ) (repair : Repair) → AreBytes after → RowsRepaired s.size block after repair → (after ≡ block) × (repair ≡ untouched)
   pub h : Header
   pub opened : header s.size block ≡ Ok h
   pub parameters : h.parameters ≡ s.parameters
   pub count : unit_count h ≡ length units
   pub held : units_in h.starts (unit_count h) block ≡ units
   pub good : (n : ℕ) → n < unit_count h → check_fits h block n ≡ true
-  pub flawless : Flawless s.size block h
 
--- Opening what was sealed gives the settings and the units.
+-- A block of bytes reads as these settings and units: it says them, and nothing else is a repair of it. So it is flawless.
+pub record ReadsAs (s : Settings) (units : List (List ℕ)) (block : List ℕ) : Type 0 where
+  pub bytes : AreBytes block
+  pub says : Says s units block
+  pub once : (after : List ℕ) (repair : Repair) → AreBytes after → RowsRepaired s.size block after repair → (after ≡ block) × (repair ≡ untouched)
+  pub flawless : Flawless s.size block says.h
+
+-- Opening what was sealed gives the settings and the units, and of units of bytes what was sealed is flawless.
+pub record Opening (s : Settings) (units : List (List ℕ)) : Type 0 where
+  pub says : Says s units (superframe s units)
+  pub bytes : All AreBytes units → AreBytes (superframe s units)
+  pub reads : AreBytes (superframe s units) → ReadsAs s units (superframe s units)
+
 abbrev pub OpeningWhatWasSealed : Type 0
-OpeningWhatWasSealed = (s : Settings) (units : List (List ℕ)) → All AreBytes units → Fill s units → ReadsAs s units (superframe s units)
+OpeningWhatWasSealed = (s : Settings) (units : List (List ℕ)) → Fill s units → Opening s units
 
 -- The calls of a writer, made with these units in their order and with a buffer that nothing else is written to: no `add` is refused, the
 -- units that are in stay in the buffer, and `seal` is not refused and makes this block.
@@ -79,9 +88,9 @@ pub record CallsMake (units : List (List ℕ)) (begun : OpenWriter) (buffer bloc
 -- the settings and of the units that were passed. It reads as these.
 abbrev pub SealingWhatWasAdded : Type 0
 SealingWhatWasAdded =
-    (s : Settings) (units : List (List ℕ)) → All AreBytes units → Fill s units
+    (s : Settings) (units : List (List ℕ)) → Fill s units
     → (begun : OpenWriter) (buffer : List ℕ) → Begins s begun → length buffer ≡ 120 * s.size
-    → CallsMake units begun buffer (superframe s units) × ReadsAs s units (superframe s units)
+    → CallsMake units begun buffer (superframe s units) × Opening s units
 
 -- The size, the parameters and the units that a block holds make that block: neither building settings nor sealing is refused, in one call
 -- or call by call, and every byte is the same.

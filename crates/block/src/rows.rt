@@ -1,6 +1,6 @@
 // The rows of a block: 120 bytes each, of which ten are checks, and as many rows as the subchannel index says.
 ghost use Rattle.std.specs.Prelude.{◌≡◌, ◌*◌, ◌≤◌, length};
-ghost use Rattle.block.specs.BlockRows.{RowsFilled};
+ghost use Rattle.block.specs.steps.Writing.{RowsFilled};
 ghost use Rattle.block.specs.steps.Reading.{RepairsRows, RepairsCleanRows};
 
 use gf::Refusal;

@@ -5,7 +5,8 @@ use lib.Seq.{append_snoc}
 use Rattle.std.proofs.lemmas.Bool.{cases_lt}
 use Rattle.gf.specs.Theory.{Operations, Laws}
 use Rattle.codes.specs.Polynomials.{zeros, scale, negs, over, plus, times, coefficient, Same}
-use Rattle.codes.specs.Division.{divided, stepped, remainder_of, Leaves, Remainder}
+use Rattle.codes.specs.Division.{divided, remainder_of, Leaves, Remainder}
+use Rattle.codes.specs.steps.Dividing.{stepped}
 use Rattle.codes.proofs.Elements.{lead}
 use Rattle.codes.proofs.Lists.{cons, length_over, length-multiple, length-times, over_front, over_comm, over_assoc, over_zeros, scale-zero, negs-zeros, add_back, take_back, over_swap, multiple-add, over-append}
 use Rattle.codes.proofs.Same.{leading, level}

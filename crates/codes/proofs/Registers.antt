@@ -5,7 +5,7 @@ use lib.Seq.{append_snoc, map-set, set_at, get_or_at}
 use Rattle.std.proofs.lemmas.List.{get_or-map, get_or_append_left, drop_all}
 use Rattle.gf.specs.Theory.{Operations}
 use Rattle.codes.specs.Polynomials.{scale, negs, over}
-use Rattle.codes.specs.Division.{stepped}
+use Rattle.codes.specs.steps.Dividing.{stepped}
 use Rattle.codes.proofs.Lists.{length_over, length-multiple}
 
 module _ {E : Type 0} (z : E) where

@@ -32,5 +32,5 @@ module _ {E S : Type 0} (f : Operations E) (mean : S → E) where
         → (answer ≡ Ok (distance f (map mean before) c)) × (map mean after ≡ c)
     -- a symbol of the same element as before is the very same
     pub kept : (j : ℕ) (s : S) → mean (slice_index_or before j s) ≡ mean (slice_index_or after j s) → slice_index_or before j s ≡ slice_index_or after j s
-    -- where none is near, it is refused, and nothing is changed
+    -- where none is near, it is refused, and the word is as it was
     pub far : admitted checks before work_before ≡ true → ((c : List E) → Near checks before c → ⊥) → (answer ≡ Err BeyondRepair) × (after ≡ before)

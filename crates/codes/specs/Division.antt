@@ -14,11 +14,6 @@ module _ {E : Type 0} (f : Operations E) where
   divided d (suc n) [] = []
   divided d (suc n) (c ∷ w) = divided d n (over f w (negs f (scale f c d)))
 
-  -- one step with the next symbol m coming in behind as many symbols as the degree
-  abbrev pub stepped : List E → List E → E → List E
-  stepped d [] m = []
-  stepped d (c ∷ r) m = over f (r ++ (m ∷ [])) (negs f (scale f c d))
-
   -- the remainder of a message: with as many zeros in front as the divisor's degree there is one step for each of its symbols
   abbrev pub remainder_of : List E → List E → List E
   remainder_of message divisor =

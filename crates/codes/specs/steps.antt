@@ -1,4 +1,5 @@
 -- What private steps promise each other. No public contract speaks of these.
+pub mod Dividing
 pub mod Filling
 pub mod Elimination
 pub mod Syndromes

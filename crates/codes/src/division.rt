@@ -1,7 +1,8 @@
 // Long division over every field, of messages of any length, whole or in parts.
 ghost use Rattle.std.specs.Prelude.{◌≡◌, ◌<◌, true, ◌++◌, map, length};
 ghost use Rattle.codes.specs.Polynomials.{zeros};
-ghost use Rattle.codes.specs.Division.{admitted, divided, stepped, Remainder, Answered};
+ghost use Rattle.codes.specs.Division.{admitted, divided, Remainder, Answered};
+ghost use Rattle.codes.specs.steps.Dividing.{stepped};
 
 use gf::{Field, Refusal};
 

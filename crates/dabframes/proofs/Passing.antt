@@ -14,7 +14,7 @@ use Rattle.sources.proofs.Ordering.{some_free}
 use Rattle.sources.specs.Recordings.{recording_source, source_of_recording}
 use Rattle.sources.specs.Queues.{source_of_queue}
 use Rattle.dabframes.specs.declared.passage.Passage.{Passage}
-use Rattle.dabframes.specs.Passages.{to_come, held, accounted, Steady, Enqueues, HandsIn}
+use Rattle.dabframes.specs.steps.Passages.{to_come, held, accounted, Steady, Enqueues, HandsIn}
 
 -- where a whole frame is there, the bytes hold one
 whole_there : (frame_length : ℕ) (rest frame : List ℕ) (others : List (List ℕ)) → whole_frames frame_length rest ≡ frame ∷ others → frame_length ≤ length rest

@@ -1,3 +1,3 @@
--- What passing a recording through a queue keeps, and what comes of it.
-pub mod Passages
+-- What comes of passing a recording through a queue.
 pub mod Tallies
+pub mod steps

@@ -24,7 +24,7 @@ struct Passage<'b, 'q> {
 }
 
 impl<'b, 'q> Passage<'b, 'q> {
-    ghost use Rattle.dabframes.specs.Passages.{to_come, held, accounted, Steady, Enqueues, HandsIn, TakesOut};
+    ghost use Rattle.dabframes.specs.steps.Passages.{to_come, held, accounted, Steady, Enqueues, HandsIn, TakesOut};
 
     // Hands the queue a frame that was recorded as `original`. Where the queue is full, the frame is lost.
     fn enqueue(&mut self, original: &'b [u8], frame: &[u8]) -> Result<(), Failure>

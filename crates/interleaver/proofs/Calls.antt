@@ -12,7 +12,8 @@ use Rattle.gf.specs.laws.FieldLaws.{laws256}
 use Rattle.gf.specs.laws.Numbers.{bits-zero}
 use Rattle.codes.specs.Polynomials.{zeros}
 use Rattle.codes.specs.Codewords.{all_zero, code_shape, work_shape, Shaped, Filled, Corrected, Beyond, Encoded, Outcome, Correction}
-use Rattle.interleaver.specs.Rows.{row_of, stored, RowRepaired}
+use Rattle.interleaver.specs.Rows.{row_of, RowRepaired}
+use Rattle.interleaver.specs.steps.OneRow.{stored}
 use Rattle.interleaver.proofs.Places.{length-row_of}
 use Rattle.interleaver.proofs.Stored.{stored_filled, stored_beyond, stored_corrected, corrected_none}
 

@@ -4,7 +4,8 @@ use Rattle.std.proofs.lemmas.List.{get_or-take}
 use Rattle.gf.specs.Fields.{gf256}
 use Rattle.gf.specs.Bits.{bits}
 use Rattle.codes.specs.Codewords.{Filled}
-use Rattle.interleaver.specs.Rows.{row_of, OnlyRow, ChecksFilled}
+use Rattle.interleaver.specs.Rows.{row_of, ChecksFilled}
+use Rattle.interleaver.specs.steps.OneRow.{OnlyRow}
 use Rattle.interleaver.proofs.Lists.{same_take}
 use Rattle.interleaver.proofs.Places.{length-row_of, row_and_column, same_byte_at}
 

@@ -9,7 +9,8 @@ use Rattle.gf.specs.laws.FieldLaws.{laws256}
 use Rattle.gf.specs.Bits.{bits}
 use Rattle.codes.proofs.TakenOff.{distance-same}
 use Rattle.interleaver.specs.declared.repair.Repair.{Repair}
-use Rattle.interleaver.specs.Rows.{row_of, elements, wrong, OnlyRow, RowRepaired, BlockRepaired}
+use Rattle.interleaver.specs.Rows.{row_of, elements, wrong, RowRepaired, BlockRepaired}
+use Rattle.interleaver.specs.steps.OneRow.{OnlyRow}
 use Rattle.interleaver.proofs.Lists.{option_or-none, position_push}
 use Rattle.interleaver.proofs.Counting.{total, same_total, total-more, distance-rows}
 

@@ -5,7 +5,8 @@ use Rattle.std.proofs.lemmas.List.Sums.{get_or-le-sum_by}
 use Rattle.gf.specs.Fields.{gf256}
 use Rattle.codes.specs.Codewords.{code_shape}
 use Rattle.interleaver.specs.declared.repair.Repair.{Repair}
-use Rattle.interleaver.specs.Rows.{row_of, OnlyRow, RowRepaired, BlockRepaired, RepairStopped, all_corrected}
+use Rattle.interleaver.specs.Rows.{row_of, RowRepaired, BlockRepaired, RepairStopped, all_corrected}
+use Rattle.interleaver.specs.steps.OneRow.{OnlyRow}
 use Rattle.interleaver.proofs.Progress.{RepairedTo, repaired_more}
 use Rattle.interleaver.proofs.Repairing.{row_once, short}
 

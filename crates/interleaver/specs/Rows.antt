@@ -1,9 +1,8 @@
 -- The rows of a block, and what filling their checks and correcting them does.
-use Rattle.std.specs.Prelude.{◌≡◌, ℕ, ◌+◌, ◌-◌, ◌*◌, ◌<◌, ◌≤◌, Bool, not, List, [], ◌∷◌, map, length, take, Some, None, Option, MatchOption, ◌≢◌, is_none, slice_index, slice_index_or, count_by, position}
+use Rattle.std.specs.Prelude.{◌≡◌, ℕ, ◌+◌, ◌-◌, ◌*◌, ◌<◌, ◌≤◌, Bool, not, List, [], ◌∷◌, map, length, take, Some, None, Option, MatchOption, is_none, slice_index, slice_index_or, count_by, position}
 use Rattle.std.specs.List.{range_with_len}
 use Rattle.gf.specs.declared.refusal.Refusal.{Refusal}
 use Rattle.gf.specs.declared.refusal.Refusal.TheVariants.{Shape}
-use Rattle.gf.specs.declared.gf256.Gf256.{Gf256}
 use Rattle.gf.specs.Bits.{Bits, bits}
 use Rattle.gf.specs.Fields.{gf256}
 use Rattle.gf.specs.Refusals.{of_size}
@@ -25,16 +24,6 @@ pub record OneRowAndColumn (rows symbols : ℕ) : Type 0 where
       → (row : ℕ) × (column : ℕ) × (row < rows) × (column < symbols) × (place_of rows row column ≡ k)
   pub one : (row column row′ column′ : ℕ) → row < rows → row′ < rows → place_of rows row column ≡ place_of rows row′ column′
       → (row ≡ row′) × (column ≡ column′)
-
--- the bytes that symbols are stored as
-abbrev pub stored : List Gf256 → List ℕ
-stored word = map (λ s. s.0) word
-
--- Of the block only this row is written.
-pub record OnlyRow (rows symbols written : ℕ) (word before after : List ℕ) : Type 0 where
-  pub long : length after ≡ length before
-  pub here : row_of rows symbols after written ≡ word
-  pub others : (other : ℕ) → other < rows → (other ≢ written) → row_of rows symbols after other ≡ row_of rows symbols before other
 
 -- the refusals of a layout: the number of rows is not 1 to 24, or the check code has no words of this shape
 abbrev pub layout_complaints : ℕ → ℕ → ℕ → List (Bool × Refusal)

@@ -23,7 +23,8 @@ pub struct RowLayout {
 }
 
 impl RowLayout {
-    ghost use Rattle.interleaver.specs.Rows.{place_of, row_of, stored, OnlyRow, layout_complaints};
+    ghost use Rattle.interleaver.specs.Rows.{place_of, row_of, layout_complaints};
+    ghost use Rattle.interleaver.specs.steps.OneRow.{stored, OnlyRow};
     ghost use Rattle.interleaver.specs.Layouts.{rows_of, symbols_of, checks_of};
 
     // The layout of a block with 1 to 24 rows; the check code has to have words of so many symbols with so many checks.

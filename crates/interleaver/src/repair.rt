@@ -4,7 +4,8 @@ ghost use Rattle.gf.specs.Fields.{gf256};
 ghost use Rattle.gf.specs.Bits.{bits};
 ghost use Rattle.codes.specs.Polynomials.{zeros};
 ghost use Rattle.codes.specs.Codewords.{Filled};
-ghost use Rattle.interleaver.specs.Rows.{row_of, OnlyRow, OneRowAndColumn, RowsDecide, RowRepaired, RepairedOnce, RepairedSomehow, FewWrongCorrected};
+ghost use Rattle.interleaver.specs.Rows.{row_of, OneRowAndColumn, RowsDecide, RowRepaired, RepairedOnce, RepairedSomehow, FewWrongCorrected};
+ghost use Rattle.interleaver.specs.steps.OneRow.{OnlyRow};
 
 use crate::layout::RowLayout;
 use codes::{MAX_SYMBOLS, WORK_SYMBOLS, correct, encode};

@@ -3,7 +3,7 @@ use Rattle.std.proofs.Common.{ℕ, List, [], ◌∷◌, ◌++◌, append_assoc, 
 use Rattle.reception.specs.declared.calls.Call.{Call}
 use Rattle.reception.specs.declared.calls.Outcome.{Outcome}
 use Rattle.reception.specs.Receptions.{Reception, Event}
-use Rattle.reception.specs.Runs.{Run, ends, goes_on, frame_taken, frames_taken, CutAnywhere}
+use Rattle.reception.specs.Runs.{Run, ends, goes_on, frame_taken, frames_taken, CutAnywhere, RunsAreOneRun}
 use Rattle.reception.specs.Driving.{left_by, Answered, Told, Driven, PiecesAreOneRun}
 use Rattle.reception.specs.steps.Calls.{Ran}
 
@@ -71,3 +71,12 @@ cut_anywhere r after (e ∷ past) future (goes_on {between = between} rule rest)
       later = c.later;
       frames = ap (λ l. frame_taken r e ++ l) c.frames ∙ sym (append_assoc (frame_taken r e) (frames_taken c.earlier) (frames_taken c.later));
     }
+
+-- runs put together
+pub runs_are_one_run : RunsAreOneRun
+runs_are_one_run r between after [] future ends second = (second, refl)
+runs_are_one_run r between after (e ∷ past) future (goes_on {between = next} rule rest) second =
+    let w = runs_are_one_run next between after past future rest second in (
+      goes_on rule w.0,
+      ap (λ l. frame_taken r e ++ l) w.1 ∙ sym (append_assoc (frame_taken r e) (frames_taken rest) (frames_taken second)),
+    )

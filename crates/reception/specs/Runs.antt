@@ -90,3 +90,9 @@ pub record Cut {r after : Reception} (past future : List Event) (run : Run r (pa
 -- Every run can be cut before each of its events, and at its end.
 abbrev pub CutAnywhere : Type 0
 CutAnywhere = (r after : Reception) (past future : List Event) (run : Run r (past ++ future) after) → Cut past future run
+
+-- A run and another from where it ends are one run, whatever their buffers, and its frames are those of the two.
+abbrev pub RunsAreOneRun : Type 0
+RunsAreOneRun =
+    (r between after : Reception) (past future : List Event) (first : Run r past between) (second : Run between future after)
+    → (whole : Run r (past ++ future) after) × (frames_taken whole ≡ frames_taken first ++ frames_taken second)

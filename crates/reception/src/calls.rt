@@ -5,7 +5,7 @@ use gf::Refusal;
 // A call of a receiver.
 #[derive(Clone, Copy, Debug)]
 pub enum Call<'a> {
-    // With so many of the first bytes of the buffer that `drive` is lent, or all of them where they are fewer. So a buffer that is a
+    // With so many of the first bytes of the buffer that the list of calls is lent, or all of them where they are fewer. So a buffer that is a
     // byte longer than a block lets every wrong length be refused.
     Pull { length: usize },
     Offer(&'a [u8]),

@@ -2,7 +2,7 @@
 ghost use Rattle.std.specs.Prelude.{◌≡◌};
 ghost use Rattle.codes.specs.Correcting.{Corrects};
 ghost use Rattle.reception.specs.Receptions.{Reception, reception, new_receiver};
-ghost use Rattle.reception.specs.Runs.{CutAnywhere};
+ghost use Rattle.reception.specs.Runs.{CutAnywhere, RunsAreOneRun};
 ghost use Rattle.reception.specs.Recovery.{BackAfterBadReception};
 ghost use Rattle.reception.specs.Service.{LineServed, NothingLostWhileHunting, OneAnswer};
 ghost use Rattle.reception.specs.Driving.{Driven, PiecesAreOneRun};
@@ -50,6 +50,7 @@ impl<S: FrameSource> Receiver<S> {
     pub fn run<L: Listener>(&mut self, calls: &[Call<'_>], buffer: &mut [u8], listener: &mut L)
         ensures driven { Driven L.hears (reception S.meaning self.old) calls.now buffer.old buffer.new listener.old listener.new (reception S.meaning self.new) }
         ensures pieces { PiecesAreOneRun L.hears }
+        ensures together { RunsAreOneRun }
         ensures cut { CutAnywhere }
     {
         for call in calls {

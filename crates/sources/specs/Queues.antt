@@ -20,6 +20,10 @@ abbrev pub source_of_queue : FrameQueue → Source
 source_of_queue q =
     queue_source (queue_frame_length q) (ring_frames (queue_frame_length q) q.ring.first q.ring.occupied q.buffer.now) q.ring.free
 
+-- the bytes that it was lent to keep frames in: its whole buffer
+abbrev pub memory_of_queue : FrameQueue → List ℕ
+memory_of_queue q = q.buffer.now
+
 -- the refusals of checking a queue, each with its condition: the size; or the buffer has not 768 bytes times the size
 abbrev pub queue_complaints : ℕ → List ℕ → List (Bool × Refusal)
 queue_complaints size buffer = of_size size ((not (length buffer == 768 * size), Buffer) ∷ [])

@@ -63,13 +63,13 @@ offer_complaints s frame = of_frame s.frame_length frame ((s.free == 0, Full) �
 abbrev pub Offers : Source → List ℕ → Source → Result Unit Refusal → Type 0
 Offers s frame after answer = Performs (offer_complaints s frame) (λ _. after ≡ with_last s frame) (after ≡ s) answer
 
--- The source itself is as it was, its lent bytes included, unless a frame was found.
+-- The source itself, as clauses see it, is as it was, its lent bytes included, unless a frame was found.
 abbrev pub SameUnlessFound : {A : Type 0} → A → A → Result Next Refusal → Type 0
 SameUnlessFound before after (Ok Frame) = Unit {0}
 SameUnlessFound before after (Ok NothingWaiting) = after ≡ before
 SameUnlessFound before after (Err refusal) = after ≡ before
 
--- The source itself is as it was, its lent bytes included, unless a frame was taken in.
+-- The source itself, as clauses see it, is as it was, its lent bytes included, unless a frame was taken in.
 abbrev pub SameUnlessTakenIn : {A : Type 0} → A → A → Result Unit Refusal → Type 0
 SameUnlessTakenIn before after (Ok _) = Unit {0}
 SameUnlessTakenIn before after (Err refusal) = after ≡ before

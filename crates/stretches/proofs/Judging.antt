@@ -27,7 +27,8 @@ use Rattle.block.proofs.Untouched.{repaired-untouched}
 use Rattle.reception.specs.Blocks.{Misread, IsLegible, SuperFrame}
 use Rattle.reception.proofs.RepairedBlocks.{repaired_once, carried_repair, written_reads}
 use Rattle.reception.proofs.Judging.{never_both}
-use Rattle.stretches.specs.Instances.{Reads, Carried, AllGood}
+use Rattle.stretches.specs.Instances.{Carried}
+use Rattle.stretches.specs.steps.Reading.{Reads, AllGood}
 
 -- none of three refusals applies, so the last test passes
 last_passes : (a b c : Bool) (first second third : Refusal) → first_refusal ((not a, first) ∷ (not b, second) ∷ (not c, third) ∷ []) ≡ None → c ≡ true

@@ -182,6 +182,8 @@ module _ (size patience start wrong_bytes count : ℕ) (bytes : List ℕ) (passa
   loses_and_is_back locked held lost below = record {
     past = past;
     future = future;
+    put_in_before = before.accepted_are ∙ early_frames;
+    put_in_behind = behind.accepted_are ∙ late_frames;
     sent = only;
     counted = only_counted;
     in_place = in_place;

@@ -1,26 +1,12 @@
 -- Recordings that meet what the laws over runs suppose, and what the laws then say of every run over them.
-use Rattle.std.specs.Prelude.{◌≡◌, ℕ, ◌+◌, ◌-◌, ◌*◌, ◌/◌, ◌<◌, ◌≤◌, true, List, [], ◌∷◌, ◌++◌, length, Ok, slice_range}
-use Rattle.interleaver.specs.declared.repair.Repair.{Repair}
+use Rattle.std.specs.Prelude.{◌≡◌, ℕ, ◌+◌, ◌-◌, ◌*◌, ◌/◌, ◌<◌, ◌≤◌, true, List, [], ◌∷◌, ◌++◌, length, slice_range}
 use Rattle.interleaver.specs.Rows.{wrong}
-use Rattle.block.specs.declared.header.Header.{Header}
-use Rattle.block.specs.declared.reader.Opened.{Opened}
-use Rattle.block.specs.Headers.{header, unit_count, check_fits}
-use Rattle.block.specs.States.{header_of}
 use Rattle.sources.specs.Recordings.{recording_source}
 use Rattle.reception.specs.Receptions.{Reception, new_receiver, Event}
-use Rattle.reception.specs.Blocks.{RepairOf, IsLegible, SuperFrame, Carries}
+use Rattle.reception.specs.Blocks.{IsLegible, SuperFrame, Carries}
 use Rattle.reception.specs.Runs.{Run, takes, number_taken, frames_taken, patience_after, until_taken}
 use Rattle.reception.specs.Recovery.{At, line_of, Stretch, Undisturbed, FifthOf, NoOtherLegible, AsWritten, Keeps}
 use Rattle.reception.specs.Service.{NoFalseBoundary}
-
--- The block is what repairing the received one gives, and its header is read.
-pub record Reads (size : ℕ) (received block : List ℕ) (opened : Opened) (repair : Repair) : Type 0 where
-  pub repaired : RepairOf size received block repair
-  pub header_is : header size block ≡ Ok (header_of opened)
-
--- the check of every unit is right
-abbrev pub AllGood : Header → List ℕ → Type 0
-AllGood h block = (n : ℕ) → n < unit_count h → check_fits h block n ≡ true
 
 -- A received block that carries a super frame as it was written, with so many bytes wrong in all and at most five in each row.
 pub record Carried (size wrong_bytes : ℕ) (received : List ℕ) : Type 0 where
@@ -28,7 +14,7 @@ pub record Carried (size wrong_bytes : ℕ) (received : List ℕ) : Type 0 where
   pub carries : Carries size received written
   pub counted : wrong received written.block ≡ wrong_bytes
 
--- the bytes of five frames in a row of a recording, the first of them frame `place`
+-- the bytes of five consecutive frames of a recording, the first of them frame `place`
 abbrev pub five_frames : ℕ → List ℕ → ℕ → List ℕ
 five_frames size bytes place = slice_range bytes (place * (24 * size)) (place * (24 * size) + 120 * size)
 

@@ -1,2 +1,3 @@
 -- What private steps promise each other. No public contract speaks of these.
+pub mod Reading
 pub mod Feeding

@@ -3,7 +3,8 @@ ghost use Rattle.std.specs.Prelude.{◌≡◌, ◌*◌, ◌≤◌, ◌↔◌, le
 ghost use Rattle.interleaver.specs.Rows.{AreBytes};
 ghost use Rattle.block.specs.States.{header_of};
 ghost use Rattle.reception.specs.Blocks.{Misread, IsLegible};
-ghost use Rattle.stretches.specs.Instances.{Reads, Carried, AllGood};
+ghost use Rattle.stretches.specs.Instances.{Carried};
+ghost use Rattle.stretches.specs.steps.Reading.{Reads, AllGood};
 
 use block::{Opened, Received, Repair};
 use gf::Refusal;

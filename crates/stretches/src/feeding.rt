@@ -5,12 +5,10 @@ ghost use Rattle.sources.specs.Frames.{frame_at};
 ghost use Rattle.reception.specs.Receptions.{reception};
 ghost use Rattle.stretches.specs.steps.Feeding.{Fed};
 
+use crate::stretch::FRAME_BYTES;
 use crate::witness::Witness;
 use reception::{Call, Receiver};
 use sources::FrameSource;
-
-// Bytes of a frame for each step of the subchannel index.
-const FRAME_BYTES: usize = 24;
 
 // The frame `place` of a recording.
 fn frame_of(size: usize, recording: &[u8], place: usize) -> &[u8]

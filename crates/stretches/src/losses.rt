@@ -1,5 +1,5 @@
 // Runs in which super frames are lost: the receiver is locked to a boundary that is none when good reception begins.
-ghost use Rattle.std.specs.Prelude.{◌*◌, ◌/◌, ◌≤◌, ◌↔◌, length, IsTrue, IfOk, IfSome};
+ghost use Rattle.std.specs.Prelude.{◌≡◌, ◌-◌, ◌*◌, ◌/◌, ◌≤◌, ◌↔◌, length, IsTrue, IfOk, IfSome};
 ghost use Rattle.stretches.specs.Losses.{LosesAndIsBack};
 ghost use Rattle.stretches.specs.steps.Feeding.{Passed, IsBack};
 
@@ -100,7 +100,7 @@ pub fn try_losses(
     wrong_bytes: usize,
     recording: &[u8],
 ) -> Result<Option<Losses>, Failure>
-    ensures { IfOk result (λ tried. IfSome tried (λ losses. LosesAndIsBack size patience start wrong_bytes losses.super_frames recording.now)) }
+    ensures { IfOk result (λ tried. IfSome tried (λ losses. (losses.lost ≡ patience - 1) × LosesAndIsBack size patience start wrong_bytes losses.super_frames recording.now)) }
 {
     let Some(super_frames) = find_stretch(size, start, wrong_bytes, recording)? else {
         return Ok(None);

@@ -1,4 +1,5 @@
-// Shows on recorded streams that what the law of the receiver supposes can be met, and that the receiver then does what the law says.
+// Shows on recorded streams that what the laws of the receiver suppose can be met, and that the receiver then does what they say; words are
+// corrected in the same call.
 #![tactic(auto)]
 
 mod blocks;
@@ -19,6 +20,7 @@ use losses::try_losses;
 use programs::exit_code;
 use std::fs;
 use std::process::ExitCode;
+use stretch::FRAMES;
 use trial::try_recording;
 use word::{Fate, Word};
 
@@ -95,17 +97,20 @@ fn show_losses(
     if !(1..=24).contains(&size) {
         return Err(Failure::Refused(Refusal::Size));
     }
+    // No more than can be corrected.
     let wrong = wrong.min(5);
+    let wrong_bytes = wrong * size;
     for patience in 1..=3 {
+        // Any number of strays from 1 to 4 would do.
         let damage = Damage {
             strays: patience,
             wrong,
         };
         let frames = damaged(rt.alloc(), size, damage, recording)?;
-        let start = 5 + damage.strays;
-        match try_losses(rt.alloc(), size, patience, start, wrong * size, &frames)? {
+        let start = FRAMES + damage.strays;
+        match try_losses(rt.alloc(), size, patience, start, wrong_bytes, &frames)? {
             Some(losses) => println!(rt;
-                "{name}, patience {patience}, wrong bytes in each row {wrong}: {losses}"
+                "{name}, patience {patience}, wrong bytes in each super frame {wrong_bytes}: {losses}"
             )?,
             None => println!(rt; "{name}: the premises do not hold")?,
         }

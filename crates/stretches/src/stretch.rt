@@ -6,10 +6,10 @@ use crate::blocks::{is_carried, is_refused};
 use gf::Refusal;
 
 // Frames in a super frame.
-const FRAMES: usize = 5;
+pub(crate) const FRAMES: usize = 5;
 
 // Bytes of a frame for each step of the subchannel index.
-const FRAME_BYTES: usize = 24;
+pub(crate) const FRAME_BYTES: usize = 24;
 
 // Bytes of a block of the largest size.
 const BLOCK_BYTES: usize = 2880;

@@ -15,7 +15,7 @@ use std::fmt;
 pub struct Trial {
     super_frames: usize,
     tally: Tally,
-    // How many symbols of the word were corrected.
+    // What correcting the word answered.
     corrected: Result<usize, Refusal>,
 }
 

@@ -2,6 +2,7 @@
 use Rattle.std.specs.Prelude.{◌≡◌, ℕ, ◌-◌, ◌*◌, List, ◌∷◌, ◌++◌, length, take, drop, Result}
 use Rattle.gf.specs.declared.refusal.Refusal.{Refusal}
 use Rattle.gf.specs.Refusals.{Answers}
+use Rattle.interleaver.specs.Rows.{ChecksFilled}
 use Rattle.block.specs.declared.settings.Settings.{Settings}
 use Rattle.block.specs.declared.writer.OpenWriter.{OpenWriter}
 use Rattle.block.specs.SuperFrames.{layout_for, parameter_byte, packed, digits, checked_units, Fill}
@@ -28,3 +29,7 @@ with_unit_checks w block =
 -- the units fill the super frame; or the first refusal
 abbrev pub Admits : Settings → List (List ℕ) → Result Unit Refusal → Type 0
 Admits s units answer = Answers (making_complaints s units) (λ _. Fill s units) answer
+
+-- The checks of each row are filled, and no other byte is written.
+abbrev pub RowsFilled : ℕ → List ℕ → List ℕ → Type 0
+RowsFilled size before after = ChecksFilled size 120 10 before after

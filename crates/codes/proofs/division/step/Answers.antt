@@ -1,7 +1,7 @@
 use Rattle.std.proofs.Common.{◌≡◌, ℕ, ◌+◌, ◌-◌, ◌<◌, map, length, get_or, set, sym, ap, ◌∙◌, ap₂, arith}
 use lib.ListN.{length-map}
 use lib.Seq.{map-set}
-use Rattle.codes.specs.Division.{stepped}
+use Rattle.codes.specs.steps.Dividing.{stepped}
 use Rattle.codes.proofs.Registers.{advance, ahead, length-stepped, next_written, stepped_at, stepped_last, read, whole}
 use Rattle.codes.proofs.division.step.Goals as goal
 

@@ -1,5 +1,5 @@
 use Rattle.std.proofs.Common.{◌≡◌, ◌++◌, map, take, drop}
-use Rattle.codes.specs.Division.{stepped}
+use Rattle.codes.specs.steps.Dividing.{stepped}
 use Rattle.codes.proofs.division.step.Given as goal
 
 -- the places before j are written, those from j on are as they were

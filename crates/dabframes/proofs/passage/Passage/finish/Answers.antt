@@ -3,7 +3,7 @@ use Rattle.std.proofs.Common.{◌≡◌, ◌≤◌, [], length, deque_len, arith
 use Rattle.std.proofs.lemmas.Bool.{eq-eqb}
 use Rattle.std.proofs.lemmas.List.{length-map}
 use Rattle.sources.proofs.Frames.{more_frames}
-use Rattle.dabframes.specs.Passages.{held, to_come}
+use Rattle.dabframes.specs.steps.Passages.{held, to_come}
 use Rattle.dabframes.proofs.passage.Passage.finish.Goals.{then-self-frame, else-self-frame}
 use Rattle.dabframes.proofs.passage.Passage.finish.Goals as goal
 

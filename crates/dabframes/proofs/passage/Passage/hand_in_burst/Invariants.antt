@@ -1,5 +1,5 @@
 use Rattle.std.proofs.Common.{◌≡◌, ◌+◌, length}
-use Rattle.dabframes.specs.Passages.{to_come, accounted, Steady}
+use Rattle.dabframes.specs.steps.Passages.{to_come, accounted, Steady}
 use Rattle.dabframes.proofs.passage.Passage.hand_in_burst.Given as goal
 
 abbrev pub invariant-loop : goal.invariant-loop

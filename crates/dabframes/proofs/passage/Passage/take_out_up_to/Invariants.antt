@@ -1,5 +1,5 @@
 use Rattle.std.proofs.Common.{◌≡◌, length}
-use Rattle.dabframes.specs.Passages.{TakesOut}
+use Rattle.dabframes.specs.steps.Passages.{TakesOut}
 use Rattle.dabframes.proofs.passage.Passage.take_out_up_to.Given as goal
 
 abbrev pub invariant-loop-taken : goal.invariant-loop-taken

@@ -4,7 +4,8 @@ use lib.ListN.{length-map}
 use Rattle.std.proofs.lemmas.List.{map-set}
 use Rattle.std.proofs.lemmas.List.Edits.{fill_by_more}
 use Rattle.gf.specs.declared.gf256.Gf256.{Gf256}
-use Rattle.interleaver.specs.Rows.{place_of, stored}
+use Rattle.interleaver.specs.Rows.{place_of}
+use Rattle.interleaver.specs.steps.OneRow.{stored}
 use Rattle.interleaver.proofs.Places.{row_is}
 use Rattle.interleaver.proofs.layout.RowLayout.gather.Goals as goal
 

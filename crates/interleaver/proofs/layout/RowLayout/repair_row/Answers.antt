@@ -1,6 +1,7 @@
 -- What the correction of the word that is read answered is told of the row.
 use Rattle.std.proofs.Common.{Some, None, sym, subst, arith}
-use Rattle.interleaver.specs.Rows.{row_of, stored, RowRepaired}
+use Rattle.interleaver.specs.Rows.{row_of, RowRepaired}
+use Rattle.interleaver.specs.steps.OneRow.{stored}
 use Rattle.interleaver.proofs.Calls.{row_repaired, row_left, row_unchanged}
 use Rattle.interleaver.proofs.layout.RowLayout.repair_row.Goals as goal
 

@@ -3,7 +3,8 @@ use Rattle.std.proofs.Common.{get_or, sym, ◌∙◌, arith, below_more, get_or-
 use lib.ListN.{length-map}
 use Rattle.std.proofs.lemmas.List.{get_or-map}
 use Rattle.gf.specs.declared.gf256.Gf256.{Gf256}
-use Rattle.interleaver.specs.Rows.{place_of, stored}
+use Rattle.interleaver.specs.Rows.{place_of}
+use Rattle.interleaver.specs.steps.OneRow.{stored}
 use Rattle.interleaver.proofs.Places.{place_within, same_place, row_is, same_row}
 use Rattle.interleaver.proofs.layout.RowLayout.scatter.Goals as goal
 

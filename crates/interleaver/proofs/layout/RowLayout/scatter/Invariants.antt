@@ -1,6 +1,7 @@
 -- The loop: the columns before are written, and no other row.
 use Rattle.std.proofs.Common.{◌≡◌, ℕ, ◌<◌, ◌≢◌, get_or}
-use Rattle.interleaver.specs.Rows.{place_of, stored}
+use Rattle.interleaver.specs.Rows.{place_of}
+use Rattle.interleaver.specs.steps.OneRow.{stored}
 use Rattle.interleaver.proofs.layout.RowLayout.scatter.Given as goal
 
 abbrev pub invariant-loop-column : goal.invariant-loop-column

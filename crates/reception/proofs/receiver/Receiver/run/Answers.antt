@@ -4,7 +4,7 @@ use Rattle.std.proofs.lemmas.List.{take_more}
 use Rattle.reception.specs.declared.calls.Call.{Call}
 use Rattle.reception.specs.Receptions.{reception}
 use Rattle.reception.specs.Driving.{Driven}
-use Rattle.reception.proofs.Drives.{none_driven, driven_more, pieces_are_one_run, cut_anywhere}
+use Rattle.reception.proofs.Drives.{none_driven, driven_more, pieces_are_one_run, cut_anywhere, runs_are_one_run}
 use Rattle.reception.proofs.receiver.Receiver.run.Goals as goal
 
 pub loop-call-init : goal.loop-call-init
@@ -22,3 +22,6 @@ returns-clause-pieces g c = pieces_are_one_run g.L.Listener.hears
 
 pub returns-clause-cut : goal.returns-clause-cut
 returns-clause-cut g c = cut_anywhere
+
+pub returns-clause-together : goal.returns-clause-together
+returns-clause-together g c = runs_are_one_run
