@@ -1,9 +1,9 @@
 -- A read and a write of a vector by place, and of a row-by-row list by row and column.
 use borrow.Author.Count.{below_more}
-use Rattle.std.proofs.Common.{◌≡◌, ℕ, suc, ◌+◌, ◌*◌, ◌<◌, ◌≤◌, List, [], ◌∷◌, ◌++◌, map, length, get_or, take, drop, set, sym, ap, ◌∙◌, ⊎_elim, mul-le-mul_right, suc-mul, arith}
+use Rattle.std.proofs.Common.{◌≡◌, ℕ, suc, ◌+◌, ◌-◌, ◌*◌, ◌<◌, ◌≤◌, List, [], ◌∷◌, ◌++◌, map, length, get_or, take, drop, set, sym, ap, ◌∙◌, ⊎_elim, mul-le-mul_right, suc-mul, arith}
 use lib.ListN.{length-map, length-replicate, get_or-replicate}
 use mathlib.Core.List.{map-append}
-use Rattle.std.proofs.lemmas.List.{get_or_past, map-set, get_or-map, get_or-take, get_or-drop, get_or_append_left, get_or-set_same, get_or-set_other}
+use Rattle.std.proofs.lemmas.List.{get_or_past, map-set, get_or-map, get_or-take, get_or-drop, get_or_append_left, get_or-append_right, get_or-set_same, get_or-set_other, drop-map}
 use Rattle.std.proofs.lemmas.Bool.{cases_lt}
 use Rattle.gf.specs.Theory.{Operations}
 use Rattle.codes.specs.Polynomials.{zeros}
@@ -62,6 +62,20 @@ module _ {E S : Type 0} (f : Operations E) (mean : S → E) where
   front xs ys j h =
       ap (λ zs. get_or zs j f.zero) (map-append mean xs ys) ∙ get_or_append_left (map mean xs) (map mean ys) f.zero j (rw (length-map xs mean) h)
 
+  -- there is nothing past the end
+  pub place_past : (xs : List S) (j : ℕ) → length xs ≤ j → entries f mean xs j ≡ f.zero
+  unfolding entries
+  place_past xs j h = get_or_past (map mean xs) j f.zero (rw (length-map xs mean) h)
+
+  -- an entry of what lies past the front part
+  pub behind : (ys xs : List S) (n j : ℕ) → length ys ≡ n → n ≤ j → entries f mean (ys ++ drop n xs) j ≡ entries f mean xs j
+  unfolding entries
+  behind ys xs n j long h =
+      ap (λ zs. get_or zs j f.zero) (map-append mean ys (drop n xs))
+      ∙ get_or-append_right (map mean ys) (map mean (drop n xs)) n j f.zero (length-map ys mean ∙ long) h
+      ∙ ap (λ zs. get_or zs (j - n) f.zero) (sym (drop-map mean n xs)) ∙ get_or-drop n (map mean xs) (j - n) f.zero
+      ∙ ap (λ (i : ℕ). get_or (map mean xs) i f.zero) (omega (arith, h))
+
   -- zeros are zero at each place, and so is what lies past them
   pub place-zeros : (xs : List S) (n : ℕ) → map mean xs ≡ zeros f n → (j : ℕ) → entries f mean xs j ≡ f.zero
   unfolding entries
@@ -100,11 +114,6 @@ module _ {E S : Type 0} (f : Operations E) (mean : S → E) where
     rows = λ r c hc ne. place_other xs p (r * w + c) x (λ q. rows_differ r i w c j hc hj ne (q ∙ e));
     columns = λ r c hc ne. place_other xs p (r * w + c) x (λ q. columns_differ r i w c j hc hj ne (q ∙ e));
   }
-
-  -- there is nothing past the end
-  place_past : (xs : List S) (j : ℕ) → length xs ≤ j → entries f mean xs j ≡ f.zero
-  unfolding entries
-  place_past xs j h = get_or_past (map mean xs) j f.zero (rw (length-map xs mean) h)
 
   -- the symbols at two places have changed places
   entries_swapped : (xs ys : List S) (i j : ℕ) → i < length xs → j < length xs → length ys ≡ length xs → SwappedAt xs ys i j

@@ -1,8 +1,8 @@
 -- The generator in place: a factor taken in place by place from the front.
 use borrow.Author.Count.{below_more}
-use Rattle.std.proofs.Common.{◌≡◌, ℕ, zero, suc, ◌+◌, ◌<◌, ◌≤◌, true, List, [], ◌∷◌, map, length, get_or, sym, refl, ap, ◌∙◌, ap₂, ⊎_elim, add-one, arith, ext_get_or}
+use Rattle.std.proofs.Common.{◌≡◌, ℕ, zero, suc, ◌+◌, ◌<◌, ◌≤◌, true, List, [], ◌∷◌, ◌++◌, map, length, take, drop, get_or, sym, refl, ap, ◌∙◌, ap₂, ⊎_elim, add-one, arith, length-take-le, ext_get_or}
 use lib.ListN.{length-map}
-use Rattle.std.proofs.lemmas.List.{get_or_past}
+use Rattle.std.proofs.lemmas.List.{get_or_past, take-append-drop}
 use Rattle.std.proofs.lemmas.Bool.{cases_lt}
 use Rattle.gf.specs.Theory.{Operations, Laws, pow}
 use Rattle.codes.specs.Polynomials.{over, times}
@@ -11,6 +11,7 @@ use Rattle.codes.specs.Codewords.{generator}
 use Rattle.codes.specs.steps.Elimination.{entries}
 use Rattle.codes.specs.steps.Filling.{Holds, FactorTaken}
 use Rattle.codes.proofs.Admission.{admitted_by_lead}
+use Rattle.codes.proofs.Cells.{front, behind, place_past}
 use Rattle.codes.proofs.Lists.{length-times}
 use Rattle.codes.proofs.Ring.{O, I, ◌⊕◌, ◌⊗◌, ⊝◌, ◌≐◌, ring₁, ring₂, ring₃}
 use Rattle.codes.proofs.Words.{linear, generator-cons}
@@ -79,10 +80,35 @@ module _ {E : Type 0} {f : Operations E} (l : Laws f) where
     before = e ∙ s.high k (omega arith) ∙ ap (λ (m : ℕ). get_or (f.zero ∷ generator f r) m f.zero) (sym (add-one k));
   }
 
+  -- it goes over the places of the next generator alone
+  pub factor_begun : {S : Type 0} (mean : S → E) (xs : List S) (r : ℕ) (x : E) → r + 1 < length xs → x ≡ f.zero
+      → Holds f (generator f r) (entries f mean xs)
+      → FactorTaken f 0 (generator f r) (generator f (r + 1)) x (entries f mean (take (r + 2) xs))
+  factor_begun mean xs r x long start holds = record {
+    low = λ j h. absurd (omega (arith, h));
+    high = λ j _. ⊎_elim
+        (λ (h : j < r + 2). sym (front f mean (take (r + 2) xs) (drop (r + 2) xs) j (omega (arith, fits)))
+        ∙ ap (λ ys. entries f mean ys j) (take-append-drop (r + 2) xs) ∙ holds j)
+        (λ (h : r + 2 ≤ j). place_past f mean (take (r + 2) xs) j (omega (arith, fits)) ∙ sym (generator_past r j (omega arith)))
+        (cases_lt j (r + 2));
+    before = start;
+  }
+    where
+      fits : length (take (r + 2) xs) ≡ r + 2
+      fits = length-take-le (r + 2) xs (omega (arith, long))
+
   pub factor_end : (r n : ℕ) (u : ℕ → E) (x : E) → r + 1 < n → FactorTaken f n (generator f r) (generator f (r + 1)) x u → Holds f (generator f (r + 1)) u
   factor_end r n u x h s j =
       ⊎_elim (λ (k : j < n). s.low j k)
       (λ (k : n ≤ j). s.high j k ∙ generator_past r j (omega arith) ∙ sym (generator_past (r + 1) j (omega arith))) (cases_lt j n)
+
+  -- where the front part holds it, so does the whole
+  pub factor_whole : {S : Type 0} (mean : S → E) (ys xs : List S) (r : ℕ) → length ys ≡ r + 2 → Holds f (generator f r) (entries f mean xs)
+      → Holds f (generator f (r + 1)) (entries f mean ys) → Holds f (generator f (r + 1)) (entries f mean (ys ++ drop (r + 2) xs))
+  factor_whole mean ys xs r long before part j =
+      ⊎_elim (λ (h : j < r + 2). front f mean ys (drop (r + 2) xs) j (omega (arith, long)) ∙ part j)
+      (λ (h : r + 2 ≤ j). behind f mean ys xs (r + 2) j long h ∙ before j ∙ generator_past r j (omega arith)
+      ∙ sym (generator_past (r + 1) j (omega arith))) (cases_lt j (r + 2))
 
   -- places that hold the generator, as many as it has coefficients
   pub generated : {S : Type 0} (mean : S → E) (xs : List S) (r : ℕ) → length xs ≡ r + 1 → Holds f (generator f r) (entries f mean xs)

@@ -72,7 +72,8 @@ fn correct_word<F: Field>(word: &mut [F], checks: usize, work: &mut [F]) -> Resu
     ensures work { map F.mean work.new ≡ zeros F.field 512 }
 {
     let (syndromes, rest) = work.split_at_mut(MAX_CHECKS);
-    let syndromes = &mut syndromes[..checks];
+    // That there are no more than `MAX_CHECKS` is proved. The compiler learns it here, and needs no remainder for each product then.
+    let syndromes = &mut syndromes[..checks.min(MAX_CHECKS)];
     write_syndromes(word, syndromes);
     if are_zero(syndromes) {
         return Ok(0);

@@ -191,12 +191,24 @@ impl<'a, F: Field> Matrix<'a, F> {
         }
     }
 
-    // Writes to `vector` what is not zero, and what each row sends to zero. The matrix is used up.
-    pub(crate) fn kernel_vector(&mut self, vector: &mut [F])
-        requires { length vector.old ≡ self.old.columns }
-        ensures { Kernel F.field self.old.rows self.old.columns (cells F.field F.mean self.old.columns self.old.symbols.now) (entries F.field F.mean vector.new) }
+    // Writes to `vector` what is not zero, and what each row sends to zero. The matrix is used up. It goes into a variable of its own, of
+    // which the compiler keeps the fields in registers: behind a reference it reads them again after each entry that is written. It is
+    // taken apart for that, since no parameter that holds a reference can be lent as `&mut`.
+    pub(crate) fn kernel_vector(self, vector: &mut [F])
+        requires { length vector.old ≡ self.columns }
+        ensures { Kernel F.field self.entry.rows self.entry.columns (cells F.field F.mean self.entry.columns self.entry.symbols.now) (entries F.field F.mean vector.new) }
     {
-        let free = self.reduce();
-        self.substitute(free, vector);
+        let Matrix {
+            symbols,
+            rows,
+            columns,
+        } = self;
+        let mut matrix = Matrix {
+            symbols,
+            rows,
+            columns,
+        };
+        let free = matrix.reduce();
+        matrix.substitute(free, vector);
     }
 }

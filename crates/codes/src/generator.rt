@@ -8,14 +8,14 @@ use crate::division::clear;
 use gf::Field;
 
 // Multiplies the polynomial of that degree, in the first places, by x less that power of the root: each coefficient loses the product
-// of the one before with the power.
+// of the one before with the power. Behind the next generator's places there are zeros, which stay.
 fn take_factor<F: Field>(polynomial: &mut [F], degree: usize)
     requires sizes { (degree + 1 < length polynomial.old) × (degree < 16) }
     requires before { Holds F.field (generator F.field degree) (entries F.field F.mean polynomial.old) }
     ensures { Holds F.field (generator F.field (degree + 1)) (entries F.field F.mean polynomial.new) }
 {
     let mut before = F::zero();
-    for coefficient in polynomial.iter_mut() {
+    for coefficient in polynomial[..degree + 2].iter_mut() {
         let product = before.times_root_power(degree);
         before = *coefficient;
         *coefficient = coefficient.add(product.neg());

@@ -17,12 +17,13 @@ returns-then-are_zero g c =
     let sizes = code_sizes F.field (length c.args.word.now) r c.requires.shape in
     let front : length (take r parts.0.now) ≡ r = search rules in
     let many : length syndromes ≡ r = search rules in
+    let same : c.min.result ≡ r = omega (arith, c.min.ensures, sizes) in
     let none = sym (c.if-are_zero.ensures) in
     record {
       outcome = outcome_clean l F.mean r c.args.word.now (omega arith) sizes.3
           (λ i h. sym (c.write_syndromes.ensures i (omega (arith, front))) ∙ all_zero_at l (map F.mean syndromes) none i (omega (arith, many, length-map syndromes F.mean)));
-      work = zeros_over l F.mean 512 r syndromes parts.0.now parts.1.now c.args.work.now c.split_at_mut-syndromes.ensures.value c.requires.work
-          (omega (arith, sizes)) many none;
+      work = zeros_over l F.mean 512 c.min.result syndromes parts.0.now parts.1.now c.args.work.now c.split_at_mut-syndromes.ensures.value c.requires.work
+          (omega (arith, sizes, same)) (many ∙ sym same) none;
     }
 
 pub returns-clause-work : goal.returns-clause-work

@@ -9,4 +9,4 @@ abbrev pub invariant-loop-coefficient : goal.invariant-loop-coefficient
 invariant-loop-coefficient g l =
     let F = g.F.Field in
     let f = F.field in
-    FactorTaken f l.coefficient-index (generator f l.degree) (generator f (l.degree + 1)) (F.mean l.before) (entries f F.mean l.polynomial)
+    FactorTaken f l.coefficient-index (generator f l.degree) (generator f (l.degree + 1)) (F.mean l.before) (entries f F.mean l.coefficient-items)
