@@ -1,7 +1,7 @@
 // A code over a small field, with words so short that all of them can be tried.
 use crate::small_field::SmallField;
 use crate::tally::Tally;
-use crate::word::{distance, is_written, multiply_by_generator, write_numbered};
+use crate::word::{distance, is_near, is_written, multiply_by_generator, write_numbered};
 use codes::{WORK_SYMBOLS, correct};
 use gf::Refusal;
 use std::alloc::{AllocError, Global};
@@ -38,10 +38,11 @@ impl<F: SmallField> SmallCode<F> {
 
     // Whether a correction may answer so and leave `after` of a word, by the codewords that are near enough.
     fn is_right(&self, word: &[F], answer: &Result<usize, Refusal>, after: &[F]) -> bool {
+        let most = self.checks / 2;
         let mut near = self
             .codewords
             .iter()
-            .filter(|codeword| distance(word, codeword) <= self.checks / 2);
+            .filter(|codeword| is_near(word, codeword, most));
         match (answer, near.next(), near.next()) {
             (Ok(changed), Some(codeword), None) => {
                 *changed == distance(word, codeword) && is_written(after, word, codeword)
@@ -59,7 +60,10 @@ impl<F: SmallField> SmallCode<F> {
         let mut tally = Tally::default();
         for number in 0..word_count::<F>(self.symbols) {
             write_numbered(&mut word, number);
-            write_numbered(&mut after, number);
+            // `copy_from_slice` asks for a proof that both are as long, and nothing of the two lists is known here.
+            for (copy, symbol) in after.iter_mut().zip(&word) {
+                *copy = *symbol;
+            }
             let answer = correct(&mut after, self.checks, &mut work);
             tally.count(&answer, self.is_right(&word, &answer, &after));
         }

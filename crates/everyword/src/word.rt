@@ -38,6 +38,21 @@ pub fn distance<F: Field>(word: &[F], other: &[F]) -> usize {
         .count()
 }
 
+// Whether they have different elements at no more than so many places. It stops at the first place too many, and is written out, since
+// most of the time goes here: by `filter` and `nth` it takes half as many instructions again.
+pub fn is_near<F: Field>(word: &[F], other: &[F], most: usize) -> bool {
+    let mut left = most;
+    for (symbol, other) in word.iter().zip(other) {
+        if !symbol.same(*other) {
+            if left == 0 {
+                return false;
+            }
+            left -= 1;
+        }
+    }
+    true
+}
+
 // Whether the word has the elements of `meant`, and the very symbols of `before` wherever these mean the same.
 pub fn is_written<F: SmallField>(word: &[F], before: &[F], meant: &[F]) -> bool {
     word.iter().zip(before).zip(meant).all(|((symbol, before), meant)| {
