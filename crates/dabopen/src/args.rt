@@ -30,7 +30,7 @@ pub enum Request {
     Open(Order),
 }
 
-// Reads the words of the call. Options may stand before, between and behind the other words.
+// Reads the words of the call. Options may stand before, between and behind the other words; a file's name may begin with '-'.
 pub fn read_request(rt: &HostRuntime) -> Result<Request, Failure> {
     let mut size_word = None;
     let mut file = None;
@@ -48,10 +48,10 @@ pub fn read_request(rt: &HostRuntime) -> Result<Request, Failure> {
         match word.as_str() {
             "--help" | "-h" => return Ok(Request::Help),
             "--units" if units.is_none() => folder_is_next = true,
-            option if option.starts_with('-') => return Err(Failure::UnknownOption(word)),
+            "--units" => return Err(Failure::UnknownOption(word)),
             _ if size_word.is_none() => size_word = Some(word),
             _ if file.is_none() => file = Some(word),
-            _ => return Err(Failure::Usage),
+            _ => return Err(too_many_words([size_word, file, Some(word)])),
         }
     }
     let Some(size_word) = size_word else {
@@ -64,4 +64,14 @@ pub fn read_request(rt: &HostRuntime) -> Result<Request, Failure> {
         Ok(size) => Ok(Request::Open(Order { size, file, units })),
         Err(_) => Err(Failure::Size(size_word)),
     }
+}
+
+// What is told where a word is left over behind SIZE and FILE: the first of the three that begins with '-', since it may be a mistyped
+// option, or the usage alone.
+fn too_many_words(words: [Option<String>; 3]) -> Failure {
+    words
+        .into_iter()
+        .flatten()
+        .find(|word| word.as_str().starts_with('-'))
+        .map_or(Failure::Usage, Failure::UnknownOption)
 }
